@@ -1,0 +1,48 @@
+-- `chunk::segments::segment` meets its contract.
+use mathlib.Core.Path.{ap}
+use Prim.Native.Nat.{ℕ, _*_}
+use borrow.Author.Needs.{needs}
+use denote.Ref.{now, ptr}
+use Rattle.chunk.specs.Segment.{onward}
+use Rattle.chunk.proofs.Stretch.{stretch-is}
+use Rattle.chunk.proofs.segments.segment.Statement.{statement}
+use Rattle.chunk.proofs.segments.segment.Tie as tie
+
+segment-start-requires : tie.Need-segment-start-requires
+segment-start-requires c κs = search needs
+
+add-least : tie.Need-add-least
+add-least c = search needs
+
+least-requires : tie.Need-least-requires
+least-requires c κs = search needs
+
+sub-result : tie.Need-sub-result
+sub-result c = search needs
+
+part-result-start : tie.Need-part-result-start
+part-result-start c = search needs
+
+part-result-end : tie.Need-part-result-end
+part-result-end c = search needs
+
+returns : tie.Need-returns
+returns c =
+    let l = c .before in
+    let s = l .before in
+    let g = s .before .before .args in (
+      stretch-is (32 * g .index) 32 (now (g .«data»)) (s .segment-start .result) (l .least .result) (s .segment-start .ensures) (l .least .ensures),
+      ap (λ (n : ℕ). onward n (ptr (g .«data»))) (s .segment-start .ensures),
+    )
+
+pub segment-spec : {M : Type 1} → statement M
+segment-spec =
+    tie.close
+    (tie.spec
+    segment-start-requires
+    add-least
+    least-requires
+    sub-result
+    part-result-start
+    part-result-end
+    returns)

@@ -1,0 +1,8 @@
+-- Laws that belong to no one function.
+pub mod Xor
+pub mod Word
+pub mod Lane
+pub mod Step
+pub mod Textbook
+pub mod Theorems
+pub mod Empty

@@ -1,0 +1,7 @@
+-- Laws that belong to no one function.
+pub mod Bytes
+pub mod Numbers
+pub mod Ordered
+pub mod Edits
+pub mod Joins
+pub mod Turns

@@ -1,0 +1,58 @@
+-- The loop's invariant: the first i bytes of v are in their place.
+use Prim.Native.Nat.{_≤_, _-_}
+use mathlib.Core.Path.{_≡_, refl, sym, _∙_}
+use native.Mathlib.Omega.{arith}
+use borrow.Author.Needs.{needs}
+use lib.ListN.{length, length-set}
+use lib.Seq.{paste, paste-zero}
+use Rattle.octets.proofs.Edits
+use Rattle.octets.proofs.Turns
+use Rattle.octets.proofs.moving.put.Statement.{statement}
+use Rattle.octets.proofs.moving.put.Tie as tie
+
+abbrev Inv-loop : tie.InvT-loop
+Inv-loop s₀ at v i₀ s i = (i ≤ length v) × (s ≡ paste s₀ at v i) × (length s ≡ length s₀)
+
+abbrev μ-loop : tie.MeasureT-loop
+μ-loop s₀ at v i₀ s i = length v - i
+
+returns : tie.Need-returns Inv-loop μ-loop
+returns c = let a = c .before .args in sym (Edits.placed-not (a .s .now) (a .at) (a .v .now) (omega arith))
+
+returns-2 : tie.Need-returns-2 Inv-loop μ-loop
+returns-2 c = let a = c .before .before .args in sym (Edits.placed-not (a .s .now) (a .at) (a .v .now) (omega arith))
+
+loop-holds : tie.Need-loop-holds Inv-loop μ-loop
+loop-holds c = let a = c .before .before .args in (omega arith, paste-zero (a .s .now) (a .at) (a .v .now), refl)
+
+loop-again : tie.Need-loop-again Inv-loop μ-loop
+loop-again c =
+    let l = c .before .before in
+    let a = l .before .before .before .args in
+    let turn = Turns.put-more (l .loop .s) (a .s .now) (a .at) (a .v .now) (l .loop .i) (l .loop .inv .1) (omega arith) (omega arith) in
+    (omega arith, turn, simp length-set (l .loop .inv .2))
+
+returns-3 : tie.Need-returns-3 Inv-loop μ-loop
+returns-3 c =
+    let l = c .before in
+    let a = l .before .before .before .args in
+    l .loop .inv .1 ∙ Turns.put-all (a .s .now) (a .at) (a .v .now) (l .loop .i) (omega arith) ∙ sym (Edits.placed-fits (a .s .now) (a .at) (a .v .now) (omega arith))
+
+pub put-spec : {M : Type 1} → statement M
+put-spec =
+    tie.close
+    (tie.spec
+    Inv-loop
+    μ-loop
+    returns
+    (λ c. search needs)
+    returns-2
+    loop-holds
+    (λ c. search needs)
+    (λ c. search needs)
+    (λ c. search needs)
+    (λ c. search needs)
+    (λ c. search needs)
+    loop-again
+    (λ c. search needs)
+    returns-3)

@@ -1,0 +1,6 @@
+-- What the contracts of this crate and of those above it cite.
+pub mod Bytes
+pub mod Order
+pub mod Number
+pub mod Moving
+pub mod Determined

@@ -1,0 +1,24 @@
+-- Big-endian numbers.
+use Prim.Native.Nat.{ℕ, zero, suc, _+_, _*_, _/_, _%_, _^_}
+use mathlib.Core.Bool.{cond}
+use mathlib.Core.List.{List, [], _∷_, _++_, reverse}
+use lib.Dec.{leb}
+use lib.ListN.{length, take, drop}
+
+-- the number that a string of bytes is
+unfoldable pub big : List ℕ → ℕ
+big [] = 0
+big (x ∷ xs) = x * 256 ^ length xs + big xs
+
+-- the same with the last byte first
+unfoldable pub little : List ℕ → ℕ
+little xs = big (reverse xs)
+
+-- the number in the `width` bytes of s from `at`, 0 where they are not there
+unfoldable pub bigAt : ℕ → List ℕ → ℕ → ℕ
+bigAt width s at = cond (leb (at + width) (length s)) (big (take width (drop at s))) 0
+
+-- the last `width` bytes of n
+unfoldable pub bytesOf : ℕ → ℕ → List ℕ
+bytesOf zero n = []
+bytesOf (suc width) n = bytesOf width (n / 256) ++ (n % 256 ∷ [])

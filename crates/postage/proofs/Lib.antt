@@ -1,0 +1,9 @@
+-- Laws that belong to no one function.
+pub mod Records
+pub mod Listed
+pub mod Search
+pub mod Ruled
+pub mod InOrder
+pub mod Slots
+pub mod Signed
+pub mod Theorems
