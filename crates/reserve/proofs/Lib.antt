@@ -32,6 +32,7 @@ pub mod Stamped
 pub mod Ways
 pub mod Heard
 pub mod Answered
+pub mod Outside
 pub mod Room
 pub mod Theorems
 -- the offer's code

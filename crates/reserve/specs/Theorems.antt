@@ -83,6 +83,17 @@ pub record VeryRecordHeld (batches book : List ℕ) (o : Offer) : Type 0 where
 abbrev pub VeryRecord : Type 0
 VeryRecord = (batches book : List ℕ) (o : Offer) → Bytes book → ByteOffer o → (answer batches book o ≡ 21) ↔ VeryRecordHeld batches book o
 
+-- 20 exactly when the address shares fewer bits with the overlay than the depth of a good book, and the stamp passes. The theory knows
+-- a slot's nearness only; this says that it is the address's.
+pub record BelowDepth (batches book : List ℕ) (o : Offer) : Type 0 where
+  pub formed : WellFormed book
+  pub good : stateIn book ≡ 0
+  pub stamped : stampAnswer batches (o .address) (o .stamp) (o .account) ≡ 0
+  pub below : sharedBits (o .address) (overlayIn book) < depthIn book
+
+abbrev pub OutsideTheDepth : Type 0
+OutsideTheDepth = (batches book : List ℕ) (o : Offer) → Bytes book → ByteOffer o → (answer batches book o ≡ 20) ↔ BelowDepth batches book o
+
 -- An overfull book stays as it is, byte for byte, whatever it hears.
 abbrev pub OverfullForEver : Type 0
 OverfullForEver = (batches book : List ℕ) (s : List Offer) → WellFormed book → stateIn book ≡ 1 → heard batches book s ≡ book
