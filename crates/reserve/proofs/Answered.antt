@@ -1,31 +1,26 @@
 -- What an offer to any bytes answers and leaves, by the ways that it can go.
-use mathlib.Core.Path.{_≡_, refl, sym, ap, _∙_, subst}
+use mathlib.Core.Path.{_≡_, refl, sym, ap, _∙_}
 use mathlib.Core.Logic.{_↔_}
-use mathlib.Core.List.{List, [], _∷_, List·Memᴰ}
-use Prim.Native.Nat.{ℕ, suc, _≤_, _<_}
+use mathlib.Core.List.{List}
+use Prim.Native.Nat.{ℕ, _≤_}
 use native.Mathlib.Omega.{arith}
-use lib.ListN.{length, drop}
 use Rattle.octets.specs.Bytes.{Bytes}
-use Rattle.settling.specs.Book.{State, overfull, good}
+use Rattle.settling.specs.Book.{State, good}
 use Rattle.settling.specs.Book as settling
 use Rattle.settling.specs.Answer.{outcome}
-use Rattle.settling.specs.Meaning.{Each, Sound, Holds, Given, kept, dropped, bursts, already, outside, very, outranked, Added}
+use Rattle.settling.specs.Meaning.{Sound, Holds, Given, kept, dropped, bursts, already, outside, very, outranked}
 use Rattle.settling.proofs.Theorems as theorems
-use Rattle.reserve.specs.Record.{slot, addressIn, nearOf, recordOf, Fitting}
-use Rattle.reserve.specs.Shape.{shape}
-use Rattle.reserve.specs.Layout.{stateIn, depthIn, overlayIn, capacityIn, countIn, recordsIn, WellFormed}
+use Rattle.reserve.specs.Record.{recordOf}
+use Rattle.reserve.specs.Layout.{stateIn, WellFormed}
 use Rattle.reserve.specs.Lawful.{Lawful}
-use Rattle.reserve.specs.Book.{Book, read, write}
-use Rattle.reserve.specs.Edit.{inState}
+use Rattle.reserve.specs.Book.{Book, inState, read, write}
 use Rattle.reserve.specs.Stamps.{stampAnswer}
-use Rattle.reserve.specs.Offer.{Ended, shapeOf, entered, offered}
-use Rattle.reserve.specs.Histories.{Offer, ByteOffer, after, answer, heard}
-use Rattle.reserve.specs.Theorems.{Table, not-well-formed, already-overfull, stamp-refused, settles, VeryRecordHeld, Roomy, AddedTo}
-use Rattle.reserve.proofs.Laid.{length-cut}
-use Rattle.reserve.proofs.Slots.{near-inside}
+use Rattle.reserve.specs.Offer.{Ended, shapeOf, entered}
+use Rattle.reserve.specs.Histories.{Offer, ByteOffer, after, answer}
+use Rattle.reserve.specs.Theorems.{Table, not-well-formed, already-overfull, stamp-refused, settles, VeryRecordHeld}
 use Rattle.reserve.proofs.Soundness.{lawful-sound}
-use Rattle.reserve.proofs.Roundtrip.{read-lawful, write-read, write-well-formed, read-write}
-use Rattle.reserve.proofs.Stamped.{stamp-fits, stamp-address}
+use Rattle.reserve.proofs.Roundtrip.{read-lawful, write-read, read-write}
+use Rattle.reserve.proofs.Stamped.{stamp-fits}
 use Rattle.reserve.proofs.Ways.{read-good, Way, ill, burst, unstamped, enters, way, way-ill, way-overfull, way-stamp, way-enters}
 use Rattle.reserve.proofs.Heard.{lawful-offer}
 

@@ -32,7 +32,7 @@ last-two p b =
     let high : (p * 2 ^ 8 + b / 256) % 256 ≡ b / 256 % 256 = omega arith in
     rw (low, next, high)
 
-bucket-bytes : (r : List ℕ) → length r ≡ 145 → Bytes r → bytesOf 2 (slot r / 2 ^ 32) ≡ take 2 (drop 34 r)
+pub bucket-bytes : (r : List ℕ) → length r ≡ 145 → Bytes r → bytesOf 2 (slot r / 2 ^ 32) ≡ take 2 (drop 34 r)
 bucket-bytes r h f =
     let v = take 2 (drop 34 r) in
     let two : length v ≡ 2 = part-length r 34 2 (omega arith) in

@@ -10,8 +10,8 @@ use Rattle.octets.proofs.Numbers.{length-bytesOf}
 use Rattle.octets.proofs.Edits.{placed-fits, length-placed}
 use Rattle.settling.specs.Book.{overfull}
 use Rattle.reserve.specs.Layout.{laid}
-use Rattle.reserve.specs.Book.{Book, write}
-use Rattle.reserve.specs.Edit.{inState, Stands}
+use Rattle.reserve.specs.Book.{Book, inState, write}
+use Rattle.reserve.specs.Edit.{Stands}
 use Rattle.reserve.proofs.Laid.{length-laid}
 use Rattle.reserve.proofs.Headed.{header, length-header, set-flag, set-depth, over-count, over-middle, zeros, write-overfull, stands-bytes, stands-length}
 

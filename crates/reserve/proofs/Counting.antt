@@ -15,8 +15,8 @@ use Rattle.settling.specs.Tally.{reach, tally}
 use Rattle.settling.proofs.Counters.{Counters, reach-is, counters-cons, counters-next}
 use Rattle.reserve.specs.Record.{slot, nearOf}
 use Rattle.reserve.specs.Layout.{overlayIn, cut}
-use Rattle.reserve.specs.Rise.{shapeIn}
-use Rattle.reserve.proofs.Laid.{length-cut, cut-at}
+use Rattle.reserve.specs.Shape.{shapeIn}
+use Rattle.reserve.proofs.Cuts.{length-cut, cut-at}
 
 pub near-most : (o : List ℕ) (k n : ℕ) → n ≡ nearOf o k → n ≤ 16
 unfolding nearOf

@@ -1,5 +1,5 @@
 -- One law for each way that a record enters a good book, or does not.
-use mathlib.Core.Path.{_≡_, refl, sym, ap, _∙_}
+use mathlib.Core.Path.{_≡_, sym, ap, _∙_}
 use mathlib.Core.Bool.{true}
 use mathlib.Core.Logic.{⊎-elim}
 use mathlib.Core.List.{List, [], _∷_, _++_}
@@ -10,9 +10,9 @@ use lib.Seq.{take-all, length-take-le}
 use native.Mathlib.Nat.{le-refl, eq-or-lt-of-le}
 use Rattle.octets.specs.declared.order.Order.the-variants.{Less, Same, More}
 use Rattle.octets.specs.Order.{byteOrder, turned}
-use Rattle.octets.specs.Number.{big, bigAt}
+use Rattle.octets.specs.Number.{big}
 use Rattle.octets.proofs.Bytes.{bytes-take}
-use Rattle.octets.proofs.Numbers.{big-injective, bigAt-fits}
+use Rattle.octets.proofs.Numbers.{big-injective}
 use Rattle.octets.proofs.Ordered.{order-self, same-equal}
 use Rattle.settling.specs.Book.{good}
 use Rattle.settling.proofs.Places.{each-at}
@@ -20,13 +20,13 @@ use Rattle.settling.proofs.Steps.{step-far, step-very, step-lower, step-replace
 use Rattle.reserve.specs.Record.{slot, nearOf, Fitting}
 use Rattle.reserve.specs.Rank.{rankOrder, isLess, beats}
 use Rattle.reserve.specs.Order.{rank-same, rank-turned}
-use Rattle.reserve.specs.Layout.{depthIn, overlayIn, capacityIn, countIn, recordsIn, WellFormed}
+use Rattle.reserve.specs.Shape.{shapeIn}
+use Rattle.reserve.specs.Layout.{depthIn, overlayIn, capacityIn, countIn, recordsIn}
 use Rattle.reserve.specs.Book.{read}
 use Rattle.reserve.specs.Edit.{Stands}
 use Rattle.reserve.specs.Awaits.{Awaits, AwaitsAt, Contested, Free, Ends}
-use Rattle.reserve.proofs.Laid.{length-cut}
-use Rattle.reserve.proofs.Records.{cut-part}
-use Rattle.reserve.proofs.Steps.{shapeIn, kept, ends, ends-same}
+use Rattle.reserve.proofs.Cuts.{counted, cut-part}
+use Rattle.reserve.proofs.Steps.{kept, ends, ends-same}
 
 beats-less : (a b : List ℕ) → rankOrder a b ≡ Less → beats a b ≡ true
 unfolding beats
@@ -34,17 +34,6 @@ beats-less a b e = ap isLess e
 
 beats-more : (a b : List ℕ) → rankOrder a b ≡ More → beats b a ≡ true
 beats-more a b e = beats-less b a (rank-turned a b ∙ ap turned e)
-
-pub counted : (s : List ℕ) → length (recordsIn s) ≡ countIn s
-counted s = length-cut (countIn s) (drop 48 s)
-
--- the header's numbers, as code reads them
-module _ (s : List ℕ) (w : WellFormed s) where
-  pub capacity-read : bigAt 4 s 40 ≡ capacityIn s
-  capacity-read = bigAt-fits 4 s 40 (omega (arith, w .size))
-
-  pub count-read : bigAt 4 s 44 ≡ countIn s
-  count-read = bigAt-fits 4 s 44 (omega (arith, w .size))
 
 -- shared bits below depth
 pub lies-outside : (s r : List ℕ) → Awaits s r → nearOf (overlayIn s) (slot r) < depthIn s → Ends s r 20 s

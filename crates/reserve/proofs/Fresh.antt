@@ -1,10 +1,10 @@
 -- A fresh book's bytes, written one part after another.
 use mathlib.Core.Path.{_≡_, refl, sym, ap, _∙_}
-use mathlib.Core.List.{List, [], _∷_, _++_, append-assoc, append-nil}
+use mathlib.Core.List.{List, [], _∷_, _++_, append-nil}
 use Prim.Native.Nat.{ℕ, _+_, _*_, _≤_}
 use native.Mathlib.Nat.{zero-add, sub-zero, le-of-eq}
 use native.Mathlib.Omega.{arith}
-use lib.ListN.{length, drop, set, replicate, length-append, length-replicate, replicate-append-replicate, drop-of-length-le}
+use lib.ListN.{length, set, replicate, length-append, length-replicate, replicate-append-replicate, drop-of-length-le}
 use Rattle.octets.specs.Number.{bytesOf}
 use Rattle.octets.specs.Moving.{over, placed}
 use Rattle.octets.proofs.Numbers.{length-bytesOf}

@@ -10,8 +10,8 @@ use Rattle.octets.specs.Moving.{over}
 use Rattle.octets.proofs.Numbers.{length-bytesOf, big-bytesOf}
 use Rattle.settling.specs.Book.{overfull, good}
 use Rattle.reserve.specs.Layout.{mark, overlayIn, capacityIn, countIn, laid, cut}
-use Rattle.reserve.specs.Book.{Book, write}
-use Rattle.reserve.specs.Edit.{inState, Stands}
+use Rattle.reserve.specs.Book.{Book, inState, write}
+use Rattle.reserve.specs.Edit.{Stands}
 use Rattle.reserve.proofs.Laid.{length-laid, cut-laid}
 
 unfoldable pub header : ℕ → ℕ → ℕ → List ℕ → ℕ → ℕ → List ℕ

@@ -1,26 +1,23 @@
 -- Offers heard by bytes are offers heard by the value that the bytes stand for.
 use mathlib.Core.Path.{_≡_, refl, sym, ap, _∙_}
-use mathlib.Core.Bool.{Bool, true, false, cond}
 use mathlib.Core.Option.{Option, none, some}
 use mathlib.Core.Logic.{_⊎_, inl, inr}
 use mathlib.Core.List.{List, [], _∷_}
-use Prim.Native.Nat.{ℕ, suc, _+_, _-_, _≤_}
+use Prim.Native.Nat.{ℕ, suc, _-_, _≤_}
 use native.Mathlib.Omega.{arith}
 use borrow.Author.Tests.{eq-eqb, ne-eqb}
-use Rattle.octets.specs.Bytes.{Bytes}
 use Rattle.settling.specs.Book.{State, overfull, good, enter, settle}
 use Rattle.settling.specs.Book as settling
-use Rattle.settling.specs.History.{fresh, hand, hear}
-use Rattle.settling.specs.Meaning.{Each, Sound}
+use Rattle.settling.specs.History.{hand, hear}
+use Rattle.settling.specs.Meaning.{Each}
 use Rattle.settling.proofs.Cases.{Limit, within, beyond, limit}
 use Rattle.settling.proofs.Settle.{Sought, found, nowhere, seek, offer-overfull, offer-far, offer-fits, offer-rises}
-use Rattle.settling.proofs.Sound.{fresh-sound, offer-sound, every-offer}
+use Rattle.settling.proofs.Sound.{offer-sound, every-offer}
 use lib.ListN.{length}
 use Rattle.reserve.specs.Record.{slot, nearOf, recordOf, Fitting}
 use Rattle.reserve.specs.Shape.{shape}
 use Rattle.reserve.specs.Layout.{stateIn, Rising, WellFormed}
-use Rattle.reserve.specs.Book.{Book, read, write, flagOf, depthOf}
-use Rattle.reserve.specs.Edit.{inState}
+use Rattle.reserve.specs.Book.{Book, inState, write, flagOf, depthOf}
 use Rattle.reserve.specs.Lawful.{Lawful}
 use Rattle.reserve.specs.Open.{freshBook}
 use Rattle.reserve.specs.Stamps.{stampAnswer}

@@ -1,12 +1,12 @@
--- Records one behind the other, and records cut out of bytes: where each stands, and that cutting undoes laying.
+-- Records one behind the other: where each stands, and that cutting undoes laying.
 use mathlib.Core.Path.{_≡_, refl, sym, ap, _∙_}
 use mathlib.Core.List.{List, [], _∷_, _++_, append-assoc, append-nil}
-use Prim.Native.Nat.{ℕ, zero, suc, _+_, _-_, _*_, _≤_, _<_}
+use Prim.Native.Nat.{ℕ, zero, suc, _+_, _*_, _≤_}
 use native.Mathlib.Omega.{arith}
-use lib.ListN.{length, getD, take, drop, set, length-append, length-drop, take-append-drop}
-use lib.Seq.{take-at, drop-at, drop-append-add, drop-drop, take-add, length-take-le}
+use lib.ListN.{length, take, drop, set, length-append, take-append-drop}
+use lib.Seq.{take-at, drop-at, take-add, length-take-le}
 use Rattle.octets.specs.Bytes.{Bytes}
-use Rattle.octets.proofs.Bytes.{bytes-append, bytes-take, bytes-drop}
+use Rattle.octets.proofs.Bytes.{bytes-append}
 use Rattle.settling.specs.Meaning.{Each}
 use Rattle.reserve.specs.Layout.{cut, laid}
 
@@ -81,65 +81,6 @@ module _ (l : List (List ℕ)) (z : List ℕ) (o : Each Sized l) (i : ℕ) (h : 
 
   pub drop-laid : drop (145 * i) (laid l ++ z) ≡ laid (drop i l) ++ z
   drop-laid = rw parted (drop-at (laid (take i l)) (laid (drop i l) ++ z) (145 * i) before)
-
--- the record at place i
-pub record-laid : (l : List (List ℕ)) (z : List ℕ) → Each Sized l → (i : ℕ) → i < length l → take 145 (drop (145 * i) (laid l ++ z)) ≡ getD l i []
-unfolding laid
-record-laid [] z o i h = absurd (omega arith)
-record-laid (r ∷ l) z o zero h = rw append-assoc (take-at r (laid l ++ z) 145 (o .0))
-record-laid (r ∷ l) z o (suc i) h =
-    let e : 145 * suc i ≡ length r + 145 * i = omega (arith, o .0) in
-    rw (append-assoc, e, drop-append-add r (laid l ++ z) (145 * i)) (record-laid l z (o .1) i (omega arith))
-
--- records cut
-
-pub cut-zero : (s : List ℕ) → cut 0 s ≡ []
-unfolding cut
-cut-zero s = refl
-
-pub cut-suc : (n : ℕ) (s : List ℕ) → cut (suc n) s ≡ take 145 s ∷ cut n (drop 145 s)
-unfolding cut
-cut-suc n s = refl
-
-pub length-cut : (n : ℕ) (s : List ℕ) → length (cut n s) ≡ n
-unfolding cut
-length-cut zero s = refl
-length-cut (suc n) s = ap suc (length-cut n (drop 145 s))
-
-pub cut-at : (n : ℕ) (s : List ℕ) (i : ℕ) → i < n → getD (cut n s) i [] ≡ take 145 (drop (145 * i) s)
-unfolding cut
-cut-at zero s i h = absurd (omega arith)
-cut-at (suc n) s zero h = refl
-cut-at (suc n) s (suc i) h =
-    let e : 145 * suc i ≡ 145 + 145 * i = omega arith in
-    rw (e, ← drop-drop (145 * i) 145 s) (cut-at n (drop 145 s) i (omega arith))
-
-pub take-cut : (i n : ℕ) (s : List ℕ) → i ≤ n → take i (cut n s) ≡ cut i s
-unfolding cut
-take-cut zero n s h = refl
-take-cut (suc i) zero s h = absurd (omega arith)
-take-cut (suc i) (suc n) s h = ap (λ (l : List (List ℕ)). take 145 s ∷ l) (take-cut i n (drop 145 s) (omega arith))
-
-pub drop-cut : (i n : ℕ) (s : List ℕ) → i ≤ n → drop i (cut n s) ≡ cut (n - i) (drop (145 * i) s)
-unfolding cut
-drop-cut zero n s h = let e : n - 0 ≡ n = omega arith in rw e
-drop-cut (suc i) zero s h = absurd (omega arith)
-drop-cut (suc i) (suc n) s h =
-    let e : 145 * suc i ≡ 145 + 145 * i = omega arith in
-    let f : suc n - suc i ≡ n - i = omega arith in
-    rw (e, f, ← drop-drop (145 * i) 145 s) (drop-cut i n (drop 145 s) (omega arith))
-
-pub each-cut : (n : ℕ) (s : List ℕ) → 145 * n ≤ length s → Each Sized (cut n s)
-unfolding cut
-each-cut zero s h = tt
-each-cut (suc n) s h =
-    let e : length (drop 145 s) ≡ length s - 145 = length-drop 145 s in
-    (length-take-le 145 s (omega arith), each-cut n (drop 145 s) (omega arith))
-
-pub bytes-cut : (n : ℕ) (s : List ℕ) → Bytes s → Each Bytes (cut n s)
-unfolding cut
-bytes-cut zero s h = tt
-bytes-cut (suc n) s h = (bytes-take 145 s h, bytes-cut n (drop 145 s) (bytes-drop 145 s h))
 
 -- laid again they are the bytes, and cut again the records
 

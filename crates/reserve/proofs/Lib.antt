@@ -3,8 +3,8 @@
 -- records in bytes
 pub mod Laid
 pub mod Cuts
-pub mod Records
 pub mod Fields
+pub mod Buckets
 pub mod Slots
 pub mod Ranks
 pub mod Halves
@@ -12,7 +12,6 @@ pub mod Halves
 pub mod Headed
 pub mod Stored
 pub mod Bursting
-pub mod Buckets
 pub mod Counting
 pub mod Packing
 pub mod Keeping

@@ -12,8 +12,10 @@ use Rattle.settling.proofs.Inside.{inside-nil}
 use Rattle.settling.proofs.Places.{inside-next-in, inside-next-out}
 use Rattle.reserve.specs.Record.{slot, nearOf}
 use Rattle.reserve.specs.Layout.{overlayIn, cut, laid}
-use Rattle.reserve.specs.Rise.{shapeIn, insideIn, Packed}
-use Rattle.reserve.proofs.Laid.{laid-nil, laid-one, laid-append, length-cut}
+use Rattle.reserve.specs.Shape.{shapeIn}
+use Rattle.reserve.specs.Rise.{insideIn, Packed}
+use Rattle.reserve.proofs.Laid.{laid-nil, laid-one, laid-append}
+use Rattle.reserve.proofs.Cuts.{length-cut}
 use Rattle.reserve.proofs.Counting.{record-at}
 
 -- up to the end of what is written

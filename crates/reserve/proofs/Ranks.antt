@@ -1,7 +1,7 @@
--- The rank by two comparisons, the time and then address and signature side by side; and the choice that follows from it.
+-- The rank by three comparisons, of time, address and signature; and the choice that follows from it.
 use mathlib.Core.Path.{_≡_, refl, sym, ap, _∙_}
-use mathlib.Core.List.{List, [], _∷_, _++_}
-use Prim.Native.Nat.{ℕ, _+_, _≤_}
+use mathlib.Core.List.{List, _++_}
+use Prim.Native.Nat.{ℕ, _+_}
 use native.Mathlib.Omega.{arith}
 use mathlib.Core.Bool.{cond}
 use lib.ListN.{length, take, drop}
@@ -14,9 +14,7 @@ use Rattle.octets.specs.Bytes.{Bytes}
 use Rattle.octets.specs.Number.{big}
 use Rattle.octets.proofs.Bytes.{bytes-take}
 use Rattle.octets.proofs.Numbers.{big-injective}
-use Rattle.octets.proofs.Ordered.{order-self, same-equal, order-append}
-use Rattle.octets.proofs.Edits.{part-length}
-use Rattle.reserve.specs.declared.rank.Choice.{Choice}
+use Rattle.octets.proofs.Ordered.{order-self, same-equal}
 use Rattle.reserve.specs.declared.rank.Choice.the-variants.{First, Second, Neither}
 use Rattle.reserve.specs.Record.{slot, timeIn, addressIn, signatureIn}
 use Rattle.reserve.specs.Rank.{rankOrder, isLess, beats}
@@ -41,9 +39,6 @@ whole a h =
     ∙ ap (λ (t : List ℕ). take 40 a ++ t) (one ∙ rw (drop-drop 8 40 a, two, drop-drop 32 48 a))
 
 module _ (a b : List ℕ) (size-a : length a ≡ 145) (size-b : length b ≡ 145) (one-slot : take 40 a ≡ take 40 b) where
-  rest : (c : List ℕ) → take 97 (drop 48 c) ≡ addressIn c ++ signatureIn c
-  rest c = take-add 32 65 (drop 48 c) ∙ rw (drop-drop 32 48 c)
-
   equal : byteOrder (timeIn a) (timeIn b) ≡ Same → byteOrder (addressIn a) (addressIn b) ≡ Same → byteOrder (signatureIn a) (signatureIn b) ≡ Same → a ≡ b
   equal t x y =
       let t′ = same-equal (timeIn a) (timeIn b) t in
@@ -51,22 +46,16 @@ module _ (a b : List ℕ) (size-a : length a ≡ 145) (size-b : length b ≡ 145
       let y′ = same-equal (signatureIn a) (signatureIn b) y in
       whole a size-a ∙ (λ k. one-slot k ++ (t′ k ++ (x′ k ++ y′ k))) ∙ sym (whole b size-b)
 
-  by-two : rankOrder a b ≡ andThen (turned (byteOrder (timeIn a) (timeIn b))) (byteOrder (take 97 (drop 48 a)) (take 97 (drop 48 b)))
+  by-three : rankOrder a b ≡ andThen (turned (byteOrder (timeIn a) (timeIn b))) (andThen (byteOrder (addressIn a) (addressIn b)) (byteOrder (signatureIn a) (signatureIn b)))
   unfolding rankOrder
-  by-two =
-      let long : length (addressIn a) ≡ length (addressIn b) = part-length a 48 32 (omega (arith, size-a)) ∙ sym (part-length b 48 32 (omega (arith, size-b))) in
-      rw (rest a, rest b, order-append (addressIn a) (addressIn b) (signatureIn a) (signatureIn b) long)
-      (last-same (byteOrder (timeIn a) (timeIn b)) (byteOrder (addressIn a) (addressIn b)) (byteOrder (signatureIn a) (signatureIn b)) (byteOrder a b)
-      (λ t x y. rw (equal t x y) (order-self b)))
+  by-three =
+      last-same (byteOrder (timeIn a) (timeIn b)) (byteOrder (addressIn a) (addressIn b)) (byteOrder (signatureIn a) (signatureIn b)) (byteOrder a b)
+      (λ t x y. rw (equal t x y) (order-self b))
 
-  pub rank-later : byteOrder (timeIn a) (timeIn b) ≡ More → rankOrder a b ≡ Less
-  rank-later e = by-two ∙ ap (λ (o : Order). andThen (turned o) (byteOrder (take 97 (drop 48 a)) (take 97 (drop 48 b)))) e
-
-  pub rank-earlier : byteOrder (timeIn a) (timeIn b) ≡ Less → rankOrder a b ≡ More
-  rank-earlier e = by-two ∙ ap (λ (o : Order). andThen (turned o) (byteOrder (take 97 (drop 48 a)) (take 97 (drop 48 b)))) e
-
-  pub rank-at-one-time : byteOrder (timeIn a) (timeIn b) ≡ Same → rankOrder a b ≡ byteOrder (take 97 (drop 48 a)) (take 97 (drop 48 b))
-  rank-at-one-time e = by-two ∙ ap (λ (o : Order). andThen (turned o) (byteOrder (take 97 (drop 48 a)) (take 97 (drop 48 b)))) e
+  -- what the time says, and where it says nothing what the rest says
+  pub rank-by-time : {o : Order} → byteOrder (timeIn a) (timeIn b) ≡ o
+      → rankOrder a b ≡ andThen (turned o) (andThen (byteOrder (addressIn a) (addressIn b)) (byteOrder (signatureIn a) (signatureIn b)))
+  rank-by-time e = by-three ∙ ap (λ (t : Order). andThen (turned t) (andThen (byteOrder (addressIn a) (addressIn b)) (byteOrder (signatureIn a) (signatureIn b)))) e
 
 -- the choice between two records of 145 bytes
 second-first : (o : Order) → cond (isLess (turned o)) Second First ≡ preferred o

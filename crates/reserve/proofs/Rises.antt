@@ -1,5 +1,5 @@
 -- One law for each way that a rise ends: the counters give the least depth, or there is none.
-use mathlib.Core.Path.{_≡_, refl, sym, ap, _∙_}
+use mathlib.Core.Path.{_≡_, ap, _∙_}
 use mathlib.Core.List.{List, [], _∷_, _++_}
 use Prim.Native.Nat.{ℕ, suc, _+_, _-_, _≤_, _<_}
 use native.Mathlib.Numerals.{add-one}
@@ -14,13 +14,15 @@ use Rattle.settling.proofs.Least.{Counted, fits-at, fits-nowhere}
 use Rattle.settling.proofs.Least as least-laws
 use Rattle.settling.proofs.Steps.{step-bursts, step-dropped, step-risen}
 use Rattle.reserve.specs.Record.{slot, nearOf}
+use Rattle.reserve.specs.Shape.{shapeIn}
 use Rattle.reserve.specs.Layout.{depthIn, overlayIn, capacityIn, countIn, recordsIn}
-use Rattle.reserve.specs.Book.{read, write}
-use Rattle.reserve.specs.Edit.{inState, Stands}
-use Rattle.reserve.specs.Awaits.{Awaits, AwaitsAt, Free, Ends}
+use Rattle.reserve.specs.Book.{inState, read, write}
+use Rattle.reserve.specs.Edit.{Stands}
+use Rattle.reserve.specs.Awaits.{Awaits, Free, Ends}
 use Rattle.reserve.proofs.Slots.{near-slot}
-use Rattle.reserve.proofs.Steps.{shapeIn, kept, ends}
-use Rattle.reserve.proofs.Enters.{counted, free-there}
+use Rattle.reserve.proofs.Steps.{kept, ends}
+use Rattle.reserve.proofs.Cuts.{counted}
+use Rattle.reserve.proofs.Enters.{free-there}
 
 pub kept-less : (s : List ℕ) (e i : ℕ) → length (inside (shapeIn s) e (take i (recordsIn s))) ≤ length (inside (shapeIn s) e (recordsIn s))
 kept-less s e i =

@@ -1,26 +1,23 @@
 -- Room in a good book is used.
 use mathlib.Core.Path.{_≡_, refl, sym, ap, _∙_, subst}
 use mathlib.Core.Logic.{inl, inr}
-use mathlib.Core.List.{List, List·Memᴰ}
+use mathlib.Core.List.{List}
 use Prim.Native.Nat.{ℕ, suc, _≤_, _<_}
-use native.Mathlib.Omega.{arith}
-use lib.ListN.{length, drop}
+use lib.ListN.{length}
 use Rattle.octets.specs.Bytes.{Bytes}
-use Rattle.nearness.specs.Bits.{sharedBits}
 use Rattle.settling.specs.Book.{State, good}
 use Rattle.settling.specs.Book as settling
 use Rattle.settling.specs.Answer.{outcome}
 use Rattle.settling.specs.Meaning.{Sound, Added}
 use Rattle.settling.proofs.Theorems as theorems
-use Rattle.reserve.specs.Record.{slot, addressIn, nearOf, recordOf, Fitting}
-use Rattle.reserve.specs.Layout.{stateIn, depthIn, overlayIn, capacityIn, countIn, recordsIn, WellFormed}
+use Rattle.reserve.specs.Record.{slot, nearOf, recordOf, Fitting}
+use Rattle.reserve.specs.Layout.{depthIn, overlayIn, capacityIn, recordsIn, WellFormed}
 use Rattle.reserve.specs.Lawful.{Lawful}
-use Rattle.reserve.specs.Book.{Book, read, write}
-use Rattle.reserve.specs.Edit.{inState}
+use Rattle.reserve.specs.Book.{Book, inState, read, write}
 use Rattle.reserve.specs.Offer.{shapeOf}
 use Rattle.reserve.specs.Histories.{Offer, ByteOffer, after, answer}
 use Rattle.reserve.specs.Theorems.{Roomy, AddedTo}
-use Rattle.reserve.proofs.Laid.{length-cut}
+use Rattle.reserve.proofs.Cuts.{counted}
 use Rattle.reserve.proofs.Slots.{near-inside}
 use Rattle.reserve.proofs.Soundness.{lawful-sound}
 use Rattle.reserve.proofs.Roundtrip.{read-lawful, write-well-formed, read-write}
@@ -41,9 +38,6 @@ pub records-there : (b : Book) (d : ℕ) (l : List (List ℕ)) → Lawful (inSta
 records-there b d l p =
     let s = write (inState b (good d l)) in
     good-records (depthIn s) d (recordsIn s) l (sym (read-good s (flag-there (inState b (good d l)))) ∙ ap (λ (x : Book). x .state) (read-write (inState b (good d l)) p))
-
-pub count-records : (s : List ℕ) → countIn s ≡ length (recordsIn s)
-count-records s = sym (length-cut (countIn s) (drop 48 s))
 
 module _ (batches book : List ℕ) (o : Offer) (byte : Bytes book) (ob : ByteOffer o) (v : Roomy batches book o) where
   abbrev r : List ℕ
@@ -69,7 +63,7 @@ module _ (batches book : List ℕ) (o : Offer) (byte : Bytes book) (ob : ByteOff
   added : Added (shapeOf b) (depthIn book) (recordsIn book) r
   unfolding read
   added =
-      let few : length (recordsIn book) < capacityIn book = rw (← count-records book) (v .room) in
+      let few : length (recordsIn book) < capacityIn book = rw (counted book) (v .room) in
       theorems.room-is-used (shapeOf b) (depthIn book) (recordsIn book) r sound near-enough (v .vacant) few
 
   ends : after batches book o ≡ write (inState b (good (depthIn book) (added .list)))
@@ -91,7 +85,7 @@ module _ (batches book : List ℕ) (o : Offer) (byte : Bytes book) (ob : ByteOff
         number = enters-number batches book o byte ob (v .formed) (v .good) (v .stamped) ∙ ap (λ (c : State (List ℕ)). outcome (shapeOf b) c r) state ∙ added .answer;
         formed = subst WellFormed (sym ends) (write-well-formed (inState b (good (depthIn book) (added .list))) proper .0);
         depth = ap depthIn ends ∙ depth-there b (depthIn book) (added .list);
-        count = count-records (after batches book o) ∙ ap length records ∙ added .one-more ∙ ap suc (sym (count-records book));
+        count = sym (counted (after batches book o)) ∙ ap length records ∙ added .one-more ∙ ap suc (counted book);
         held = rw records (added .members r .1 (inl refl));
         still = λ x m. rw records (added .members x .1 (inr m));
       }

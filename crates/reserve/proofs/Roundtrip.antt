@@ -1,13 +1,12 @@
 -- Well-formed bytes and lawful values stand for each other.
 use mathlib.Core.Path.{_≡_, refl, sym, ap, _∙_}
-use mathlib.Core.Bool.{Bool, true, false, cond}
-use mathlib.Core.Logic.{_⊎_, inl, inr}
-use mathlib.Core.List.{List, [], _∷_, _++_, append-assoc}
-use Prim.Native.Nat.{ℕ, zero, suc, _+_, _-_, _*_, _^_, _≤_, _<_}
+use mathlib.Core.Bool.{cond}
+use mathlib.Core.List.{List, [], _∷_, _++_}
+use Prim.Native.Nat.{ℕ, _+_, _-_, _*_, _≤_}
 use native.Mathlib.Decide.{decLe}
 use native.Mathlib.Omega.{arith}
 use lib.Dec.{eqb}
-use lib.ListN.{length, getD, take, drop, replicate, take-append-drop, length-take, length-drop}
+use lib.ListN.{length, take, drop, replicate, take-append-drop}
 use lib.Seq.{take-add, drop-drop, drop-cons}
 use borrow.Author.Tests.{eq-eqb, ne-eqb}
 use Rattle.octets.specs.Bytes.{Bytes}
@@ -15,16 +14,12 @@ use Rattle.octets.specs.Number.{big, bytesOf}
 use Rattle.octets.proofs.Bytes.{bytes-take, bytes-drop}
 use Rattle.octets.proofs.Numbers.{bytesOf-big}
 use Rattle.octets.proofs.Edits.{part-length}
-use Rattle.nearness.specs.Bits.{sharedBits}
 use Rattle.settling.specs.Book.{State, overfull, good}
-use Rattle.settling.specs.Meaning.{Each, Every, Sound}
-use Rattle.settling.proofs.Inside.{each-map}
-use Rattle.reserve.specs.Record.{addressIn, Fitting}
-use Rattle.reserve.specs.Shape.{shape}
-use Rattle.reserve.specs.Layout.{mark, markIn, versionIn, stateIn, startingIn, depthIn, overlayIn, capacityIn, countIn, recordsIn, cut, laid, WellFormed}
+use Rattle.reserve.specs.Layout.{stateIn, startingIn, depthIn, overlayIn, capacityIn, countIn, recordsIn, cut, laid, WellFormed}
 use Rattle.reserve.specs.Book.{Book, flagOf, depthOf, heldBy, read, write}
 use Rattle.reserve.specs.Lawful.{Lawful, Tested, WriteRead, ReadWrite, ReadLawful, WriteWellFormed, CountRecords}
-use Rattle.reserve.proofs.Laid.{length-cut, laid-cut, cut-zero}
+use Rattle.reserve.proofs.Laid.{laid-cut}
+use Rattle.reserve.proofs.Cuts.{cut-zero, counted}
 use Rattle.reserve.proofs.Headed.{header}
 use Rattle.reserve.proofs.Tested as tests
 use Rattle.reserve.proofs.Written
@@ -62,7 +57,7 @@ stated s w = go (decLe (stateIn s) 0)
         record { flag = ap flagOf r ∙ sym e; depth = ap depthOf r ∙ sym (b .0); held = ap heldBy r ∙ sym (ap (λ (n : ℕ). cut n (drop 48 s)) (b .1) ∙ cut-zero (drop 48 s)) }
 
 pub count-records : CountRecords
-count-records s w = sym (length-cut (countIn s) (drop 48 s)) ∙ ap length (sym (stated s w .held))
+count-records s w = sym (counted s) ∙ ap length (sym (stated s w .held))
 
 -- the header, from its numbers
 
@@ -98,10 +93,9 @@ pub write-read : WriteRead
 unfolding read
 write-read s b w =
     let t = stated s w in
-    let n : length (recordsIn s) ≡ countIn s = length-cut (countIn s) (drop 48 s) in
     Written.write-parts (read s)
     ∙ (λ k. bytesBy (t .flag k) (startingIn s) (t .depth k) (overlayIn s) (capacityIn s) (t .held k))
-    ∙ rw (n, header-read s b w, records-read s b w) (take-append-drop 48 s)
+    ∙ rw (counted s, header-read s b w, records-read s b w) (take-append-drop 48 s)
 
 pub read-lawful : ReadLawful
 unfolding read
@@ -112,7 +106,7 @@ read-lawful s b w =
       bytes = bytes-take 32 (drop 8 s) (bytes-drop 8 s b);
       least = w .least;
       most = w .most;
-      count = rw (t .held, length-cut (countIn s) (drop 48 s)) (w .count);
+      count = rw (t .held, counted s) (w .count);
       started = rw (t .depth) (w .started);
       depth = rw (t .depth) (w .depth);
       rising = rw (t .held) (w .rising);

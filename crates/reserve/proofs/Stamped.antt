@@ -7,7 +7,7 @@ use native.Mathlib.Omega.{arith}
 use lib.ListN.{length, take, drop, length-append, length-drop, take-append-drop}
 use lib.Seq.{take-at, drop-at, take-append-le, take-take, take-all, length-take-le}
 use Rattle.octets.specs.Bytes.{Bytes}
-use Rattle.octets.specs.Number.{big, bigAt}
+use Rattle.octets.specs.Number.{big}
 use Rattle.octets.proofs.Bytes.{bytes-append, bytes-take, bytes-drop}
 use Rattle.octets.proofs.Numbers.{bigAt-fits}
 use Rattle.octets.specs.Moving.{over, placed}
@@ -17,7 +17,7 @@ use Rattle.postage.specs.declared.rules.StampAnswer.the-variants.{Passes, BadLi
 use Rattle.postage.specs.Rules.{stampNumber, checked}
 use Rattle.postage.proofs.Theorems.{passing-is-bucketed, passing-index}
 use Rattle.postage.proofs.InOrder.{in-order}
-use Rattle.reserve.specs.Record.{bucketIn, indexIn, addressIn, bucketOf, recordOf, Fitting}
+use Rattle.reserve.specs.Record.{addressIn, recordOf, Fitting}
 use Rattle.reserve.specs.Stamps.{stampAnswer}
 use Rattle.reserve.proofs.Headed.{over-middle}
 

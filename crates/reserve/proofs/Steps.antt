@@ -1,33 +1,27 @@
 -- From the theory's steps to the bytes: what is to be shown where an offer ends.
-use mathlib.Core.Path.{_≡_, refl, sym, ap, _∙_, subst}
-use mathlib.Core.List.{List, []}
-use Prim.Native.Nat.{ℕ, _+_, _*_, _≤_, _<_}
+use mathlib.Core.Path.{_≡_, sym, ap, _∙_, subst}
+use mathlib.Core.List.{List}
+use Prim.Native.Nat.{ℕ, _+_, _*_}
 use native.Mathlib.Omega.{arith}
-use lib.ListN.{length, drop}
-use lib.Seq.{length-take-le}
-use Rattle.octets.specs.Bytes.{Bytes}
+use lib.ListN.{length}
 use Rattle.octets.proofs.Edits.{part-length}
-use Rattle.settling.specs.Rank.{Shape}
 use Rattle.settling.specs.Book.{State, good}
 use Rattle.settling.specs.Book as settling
 use Rattle.settling.specs.Answer.{outcome}
-use Rattle.settling.specs.Meaning.{Each, Kept, Sound}
+use Rattle.settling.specs.Meaning.{Kept, Sound}
 use Rattle.settling.proofs.Inside.{each-map}
 use Rattle.settling.proofs.Steps.{Step}
 use Rattle.reserve.specs.Record.{Fitting}
-use Rattle.reserve.specs.Shape.{shape}
-use Rattle.reserve.specs.Layout.{stateIn, depthIn, overlayIn, capacityIn, countIn, recordsIn, WellFormed}
-use Rattle.reserve.specs.Book.{Book, read, write}
-use Rattle.reserve.specs.Edit.{inState, Stands}
+use Rattle.reserve.specs.Shape.{shapeIn}
+use Rattle.reserve.specs.Layout.{depthIn, capacityIn, recordsIn}
+use Rattle.reserve.specs.Book.{inState, read, write}
+use Rattle.reserve.specs.Edit.{Stands}
 use Rattle.reserve.specs.Offer.{shapeOf, entered}
 use Rattle.reserve.specs.Awaits.{Awaits, Ends}
-use Rattle.reserve.proofs.Laid.{length-cut}
+use Rattle.reserve.proofs.Cuts.{counted}
 use Rattle.reserve.proofs.Soundness.{lawful-sound}
 use Rattle.reserve.proofs.Roundtrip.{read-lawful, write-read}
 use Rattle.reserve.proofs.Ways.{read-good}
-
-abbrev pub shapeIn : List ℕ → Shape (List ℕ)
-shapeIn s = shape (overlayIn s) (capacityIn s)
 
 module _ (s r : List ℕ) (w : Awaits s r) where
   pub kept : Kept (shapeIn s) (depthIn s) (recordsIn s)
@@ -47,7 +41,7 @@ module _ (s r : List ℕ) (w : Awaits s r) where
         bytes = same;
         overlay = part-length s 8 32 (omega (arith, long));
         records = each-map Fitting (λ q. length q ≡ 145) (λ q f. f .size) (recordsIn s) (w .formed .fitting);
-        count = omega (arith, length-cut (countIn s) (drop 48 s), w .formed .count);
+        count = omega (arith, counted s, w .formed .count);
         most = w .formed .most;
       }
 

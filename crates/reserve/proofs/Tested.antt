@@ -1,13 +1,13 @@
 -- The test says what Layout's list says.
-use mathlib.Core.Path.{_≡_, refl, sym, ap, _∙_}
-use mathlib.Core.Bool.{Bool, true, false, _&&_, _||_, false≢true}
+use mathlib.Core.Path.{_≡_, refl, ap, _∙_}
+use mathlib.Core.Bool.{true, false, _&&_, _||_, false≢true}
 use mathlib.Core.Logic.{_↔_}
 use mathlib.Core.List.{List, [], _∷_}
-use Prim.Native.Nat.{ℕ, zero, suc, _+_, _-_, _*_, _^_, _≤_, _<_}
+use Prim.Native.Nat.{ℕ, zero, suc, _+_, _-_, _*_, _≤_}
 use native.Mathlib.Decide.{decLe}
 use native.Mathlib.Omega.{arith}
-use lib.Dec.{eqb, leb, ltb}
-use lib.ListN.{length, take, drop, replicate, length-drop, length-replicate}
+use lib.Dec.{eqb}
+use lib.ListN.{length, drop, replicate, length-drop}
 use borrow.Author.Tests.{leb-true, le-leb, ltb-true, lt-ltb, eqb-true, eq-eqb, ne-eqb}
 use Rattle.octets.specs.declared.order.Order.{Order}
 use Rattle.octets.specs.declared.order.Order.the-variants.{Less, Same, More}
@@ -17,11 +17,12 @@ use Rattle.octets.proofs.Bytes.{bytes-drop}
 use Rattle.octets.proofs.Ordered.{same-equal, order-self}
 use Rattle.nearness.specs.Bits.{sharedBits}
 use Rattle.settling.specs.Meaning.{Each}
-use Rattle.reserve.specs.Record.{slot, bucketIn, indexIn, addressIn, bucketOf, Fitting}
-use Rattle.reserve.specs.Layout.{mark, markIn, versionIn, stateIn, startingIn, depthIn, overlayIn, capacityIn, countIn, recordsIn, cut, Rising, WellFormed}
+use Rattle.reserve.specs.Record.{addressIn, Fitting}
+use Rattle.reserve.specs.Layout.{mark, markIn, versionIn, stateIn, startingIn, depthIn, overlayIn, capacityIn, countIn, recordsIn, Rising, WellFormed}
 use Rattle.reserve.specs.Check.{isSame, labelled, sized, levelled, stands, allStand, rises, zeros, wellFormed}
 use Rattle.reserve.proofs.Truths.{both, joined}
-use Rattle.reserve.proofs.Laid as laid
+use Rattle.reserve.proofs.Laid.{Sized}
+use Rattle.reserve.proofs.Cuts.{each-cut, bytes-cut}
 
 -- mark and version
 
@@ -106,7 +107,7 @@ module _ (depth : ℕ) (overlay : List ℕ) where
   abbrev Near : List ℕ → Type 0
   Near r = depth ≤ sharedBits (addressIn r) overlay
 
-  stand-true : (l : List (List ℕ)) → Each laid.Sized l → Each Bytes l → allStand depth overlay l ≡ true → Each Fitting l × Each Near l
+  stand-true : (l : List (List ℕ)) → Each Sized l → Each Bytes l → allStand depth overlay l ≡ true → Each Fitting l × Each Near l
   unfolding stands allStand
   stand-true [] w b e = (tt, tt)
   stand-true (r ∷ l) w b e =
@@ -151,7 +152,7 @@ module _ (s : List ℕ) where
       let l = levelled-true (stateIn s) (startingIn s) (depthIn s) (countIn s) (r .0) in
       let long : 145 * countIn s ≤ length (drop 48 s) = simp length-drop (omega (arith, z .whole, z .within)) in
       let left : length (drop (48 + 145 * countIn s) s) ≡ 145 * (capacityIn s - countIn s) = simp length-drop (omega (arith, z .whole, z .within)) in
-      let v = stand-true (depthIn s) (overlayIn s) (recordsIn s) (laid.each-cut (countIn s) (drop 48 s) long) (laid.bytes-cut (countIn s) (drop 48 s) (bytes-drop 48 s b)) (u .1) in
+      let v = stand-true (depthIn s) (overlayIn s) (recordsIn s) (each-cut (countIn s) (drop 48 s) long) (bytes-cut (countIn s) (drop 48 s) (bytes-drop 48 s b)) (u .1) in
       record {
         marked = m .0;
         version = m .1;

@@ -1,7 +1,7 @@
 -- The sentences of specs/Theorems.antt, proved.
 use mathlib.Core.Path.{_≡_, refl, sym, ap, _∙_, subst}
 use mathlib.Core.List.{List, [], _∷_}
-use Prim.Native.Nat.{ℕ, _≤_}
+use Prim.Native.Nat.{ℕ}
 use lib.ListN.{length}
 use Rattle.settling.specs.Book.{State, overfull, good}
 use Rattle.settling.specs.History.{fresh, hear, valid, settled}
@@ -9,10 +9,9 @@ use Rattle.settling.specs.Meaning.{Each, Settles}
 use Rattle.settling.proofs.Theorems as theorems
 use Rattle.settling.proofs.Histories.{settled-same, valid-over}
 use Rattle.reserve.specs.Shape.{shape}
-use Rattle.reserve.specs.Layout.{stateIn, countIn, WellFormed}
+use Rattle.reserve.specs.Layout.{countIn, WellFormed}
 use Rattle.reserve.specs.Lawful.{Lawful}
-use Rattle.reserve.specs.Book.{Book, heldBy, read, write}
-use Rattle.reserve.specs.Edit.{inState}
+use Rattle.reserve.specs.Book.{Book, inState, heldBy, read, write}
 use Rattle.reserve.specs.Open.{freshBook}
 use Rattle.reserve.specs.Offer.{Ended}
 use Rattle.reserve.specs.Histories.{Offer, ByteOffer, Openable, after, heard, passing, opened, settledBytes}
@@ -22,7 +21,8 @@ use Rattle.reserve.proofs.Ways.{way-overfull}
 use Rattle.reserve.proofs.Heard.{lawful-fresh, heard-hear, lawful-hear}
 use Rattle.reserve.proofs.Answered as answered
 use Rattle.reserve.proofs.Outside.{outside-below, below-outside}
-use Rattle.reserve.proofs.Room.{records-there, count-records, room-used}
+use Rattle.reserve.proofs.Cuts
+use Rattle.reserve.proofs.Room.{records-there, room-used}
 use Rattle.reserve.proofs.Heard.{flag-there}
 
 module _ (overlay : List ℕ) (capacity starting : ℕ) (batches : List ℕ) (s : List Offer) (openable : Openable overlay capacity starting) (byte : Each ByteOffer s) where
@@ -56,7 +56,7 @@ module _ (overlay : List ℕ) (capacity starting : ℕ) (batches : List ℕ) (s 
   counted = ap countIn ended ∙ go end lawful-end
     where
       go : (c : State (List ℕ)) → Lawful (inState b c) → countIn (write (inState b c)) ≡ length (heldBy c)
-      go (good d l) p = count-records (write (inState b (good d l))) ∙ ap length (records-there b d l p)
+      go (good d l) p = sym (Cuts.counted (write (inState b (good d l)))) ∙ ap length (records-there b d l p)
       go overfull p = write-well-formed (inState b overfull) p .0 .burst (flag-there (inState b overfull)) .1
 
 pub histories : Histories

@@ -1,5 +1,5 @@
 -- Tests joined by "and".
-use mathlib.Core.Path.{_≡_, refl, sym, _∙_}
+use mathlib.Core.Path.{_≡_, refl}
 use mathlib.Core.Bool.{Bool, true, false, _&&_, false≢true}
 
 module _ {a b : Bool} where

@@ -5,7 +5,6 @@ use mathlib.Core.List.{List}
 use Prim.Native.Nat.{ℕ, _+_, _*_, _<_}
 use native.Mathlib.Omega.{arith}
 use lib.ListN.{length, drop}
-use Rattle.reserve.specs.declared.check.BookAnswer.{BookAnswer}
 use Rattle.reserve.specs.declared.check.BookAnswer.the-variants.{WellFormed, NotWellFormed}
 use Rattle.reserve.specs.Layout.{capacityIn, countIn, stateIn, startingIn, depthIn, overlayIn, recordsIn}
 use Rattle.reserve.specs.Check.{labelled, sized, levelled, zeros, wellFormed, checked}

@@ -1,6 +1,6 @@
 -- The ways that an offer to any bytes can go: one equation each.
 use mathlib.Core.Path.{_≡_, refl, sym, ap, _∙_}
-use mathlib.Core.Bool.{Bool, true, false, cond}
+use mathlib.Core.Bool.{Bool, true, false, cond, false≢true}
 use mathlib.Core.Logic.{_⊎_, inl, inr}
 use mathlib.Core.List.{List}
 use Prim.Native.Nat.{ℕ, zero, suc, _≤_}
@@ -12,6 +12,7 @@ use Rattle.settling.specs.Book.{good}
 use Rattle.reserve.specs.Record.{recordOf}
 use Rattle.reserve.specs.Layout.{stateIn, depthIn, recordsIn, WellFormed}
 use Rattle.reserve.specs.Book.{read}
+use Rattle.reserve.specs.declared.check.BookAnswer.{BookAnswer}
 use Rattle.reserve.specs.declared.check.BookAnswer.the-variants.{WellFormed as Formed, NotWellFormed}
 use Rattle.reserve.specs.Check.{wellFormed, checked}
 use Rattle.reserve.specs.Stamps.{stampAnswer}
@@ -24,22 +25,18 @@ pub read-good : (s : List ℕ) → stateIn s ≡ 0 → read s .state ≡ good (d
 unfolding read
 read-good s e = rw (ne-eqb (stateIn s) 1 (λ f. omega arith))
 
--- the check's verdict
-pub formed-true : (s : List ℕ) → checked s ≡ Formed → wellFormed s ≡ true
-unfolding checked
-formed-true s e = go (wellFormed s) e
-  where
-    go : (b : Bool) → cond b Formed NotWellFormed ≡ Formed → b ≡ true
-    go true e = refl
-    go false e = let z : _≡_ {A = ℕ} 0 1 = cc in absurd (omega arith)
+-- the check's verdict, as the truth that it tells
+abbrev pub isFormed : BookAnswer → Bool
+isFormed Formed = true
+isFormed NotWellFormed = false
 
-pub formed-false : (s : List ℕ) → checked s ≡ NotWellFormed → wellFormed s ≡ false
+pub formed-as : (s : List ℕ) {a : BookAnswer} → checked s ≡ a → wellFormed s ≡ isFormed a
 unfolding checked
-formed-false s e = go (wellFormed s) e
+formed-as s e = go (wellFormed s) ∙ ap isFormed e
   where
-    go : (b : Bool) → cond b Formed NotWellFormed ≡ NotWellFormed → b ≡ false
-    go false e = refl
-    go true e = let z : _≡_ {A = ℕ} 0 1 = cc in absurd (omega arith)
+    go : (b : Bool) → b ≡ isFormed (cond b Formed NotWellFormed)
+    go true = refl
+    go false = refl
 
 -- a good book's state
 pub is-good : (s : List ℕ) → WellFormed s → (stateIn s ≡ 1 → ⊥) → stateIn s ≡ 0
@@ -78,9 +75,6 @@ module _ (book batches address stamp account : List ℕ) where
     unstamped : WellFormed book → stateIn book ≡ 0 → 10 ≤ stampAnswer batches address stamp account → stampAnswer batches address stamp account ≤ 19 → Way
     enters : WellFormed book → stateIn book ≡ 0 → stampAnswer batches address stamp account ≡ 0 → Way
 
-  true-false : true ≡ false → ⊥
-  true-false e = let z : _≡_ {A = ℕ} 1 0 = ap (λ b. cond b 1 0) e in omega arith
-
   pub way : Bytes book → Way
   way h = go (wellFormed book) refl stamp-way
     where
@@ -97,5 +91,5 @@ module _ (book batches address stamp account : List ℕ) where
       state-way w f (suc (suc n)) e k = absurd (omega arith)
 
       go : (b : Bool) → wellFormed book ≡ b → (WellFormed book → stateIn book ≡ 0 → Way) → Way
-      go false e f = ill (λ w. true-false (sym (tested book w) ∙ e)) e
+      go false e f = ill (λ w. false≢true (sym e ∙ tested book w)) e
       go true e f = let w = untested book h e in state-way w (f w) (stateIn book) refl (w .state)

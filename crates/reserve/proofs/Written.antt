@@ -1,21 +1,20 @@
 -- What stands where in the bytes that a lawful value writes.
-use mathlib.Core.Path.{_≡_, refl, sym, ap, _∙_}
-use mathlib.Core.List.{List, [], _∷_, _++_, append-assoc}
-use Prim.Native.Nat.{ℕ, zero, suc, _+_, _-_, _*_, _^_, _≤_, _<_}
+use mathlib.Core.Path.{_≡_, refl, ap, _∙_}
+use mathlib.Core.List.{List, [], _++_, append-assoc}
+use Prim.Native.Nat.{ℕ, _+_, _-_, _*_, _<_}
 use native.Mathlib.Omega.{arith}
-use lib.ListN.{length, take, drop, replicate, length-append, length-replicate}
+use lib.ListN.{length, drop, replicate, length-append, length-replicate}
 use lib.Seq.{drop-at, drop-append-add}
 use Rattle.octets.specs.Bytes.{Bytes}
-use Rattle.octets.specs.Number.{big, bytesOf}
+use Rattle.octets.specs.Number.{bytesOf}
 use Rattle.octets.proofs.Bytes.{bytes-append, bytes-zeros}
 use Rattle.octets.proofs.Numbers.{bytes-bytesOf}
-use Rattle.nearness.specs.Bits.{sharedBits}
 use Rattle.settling.specs.Book.{State, overfull, good}
 use Rattle.settling.specs.Meaning.{Each}
 use Rattle.settling.proofs.Inside.{each-map}
-use Rattle.reserve.specs.Record.{addressIn, Fitting}
-use Rattle.reserve.specs.Layout.{mark, markIn, versionIn, stateIn, startingIn, depthIn, overlayIn, capacityIn, countIn, recordsIn, cut, laid, WellFormed}
-use Rattle.reserve.specs.Book.{Book, flagOf, depthOf, heldBy, read, write}
+use Rattle.reserve.specs.Record.{Fitting}
+use Rattle.reserve.specs.Layout.{stateIn, startingIn, depthIn, overlayIn, capacityIn, countIn, recordsIn, cut, laid}
+use Rattle.reserve.specs.Book.{Book, flagOf, depthOf, heldBy, write}
 use Rattle.reserve.specs.Lawful.{Lawful}
 use Rattle.reserve.proofs.Laid.{Sized, length-laid, bytes-laid, cut-laid}
 use Rattle.reserve.proofs.Headed.{header, length-header, overlay-there, capacity-there, count-there}

@@ -15,6 +15,10 @@ pub record Book : Type 0 where
   pub capacity : ℕ
   pub state : State (List ℕ)
 
+-- the same book in another state
+abbrev pub inState : Book → State (List ℕ) → Book
+inState b c = record { starting = b .starting; overlay = b .overlay; capacity = b .capacity; state = c }
+
 unfoldable pub read : List ℕ → Book
 read s =
     record {

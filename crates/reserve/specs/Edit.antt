@@ -3,13 +3,9 @@ use mathlib.Core.List.{List}
 use mathlib.Core.Path.{_≡_}
 use Prim.Native.Nat.{ℕ, _≤_}
 use lib.ListN.{length}
-use Rattle.settling.specs.Book.{State, good}
+use Rattle.settling.specs.Book.{good}
 use Rattle.settling.specs.Meaning.{Each}
-use Rattle.reserve.specs.Book.{Book, write}
-
--- the same book in another state
-abbrev pub inState : Book → State (List ℕ) → Book
-inState b c = record { starting = b .starting; overlay = b .overlay; capacity = b .capacity; state = c }
+use Rattle.reserve.specs.Book.{Book, inState, write}
 
 -- s are the bytes of b, good at depth d with the records l; each part has the length of its place
 pub record Stands (s : List ℕ) (b : Book) (d : ℕ) (l : List (List ℕ)) : Type 0 where

@@ -10,8 +10,7 @@ use Rattle.octets.specs.Bytes.{Bytes}
 use Rattle.settling.specs.History.{valid, settled}
 use Rattle.reserve.specs.Record.{recordOf}
 use Rattle.reserve.specs.Shape.{shape}
-use Rattle.reserve.specs.Book.{Book, write}
-use Rattle.reserve.specs.Edit.{inState}
+use Rattle.reserve.specs.Book.{inState, write}
 use Rattle.reserve.specs.Open.{freshBook}
 use Rattle.reserve.specs.Stamps.{stampAnswer}
 use Rattle.reserve.specs.Offer.{offered}

@@ -2,7 +2,7 @@
 -- 1 overfull), starting depth (1), depth (1), overlay (32), capacity (4), count (4)", then the records.
 use mathlib.Core.List.{List, [], _∷_, _++_}
 use mathlib.Core.Path.{_≡_}
-use Prim.Native.Nat.{ℕ, zero, suc, _+_, _-_, _*_, _≤_}
+use Prim.Native.Nat.{ℕ, zero, suc, _+_, _-_, _*_, _≤_, _<_}
 use lib.ListN.{length, getD, take, drop, replicate}
 use Rattle.octets.specs.Number.{big}
 use Rattle.nearness.specs.Bits.{sharedBits}
@@ -54,21 +54,28 @@ laid (r ∷ l) = r ++ laid l
 unfoldable pub Rising : List (List ℕ) → Type 0
 Rising [] = Unit {0}
 Rising (r ∷ []) = Unit {0}
-Rising (r ∷ q ∷ l) = (suc (slot r) ≤ slot q) × Rising (q ∷ l)
+Rising (r ∷ q ∷ l) = (slot r < slot q) × Rising (q ∷ l)
 
 -- document 01's list, every bound
 pub record WellFormed (s : List ℕ) : Type 0 where
   pub marked : markIn s ≡ mark
   pub version : versionIn s ≡ 1
   pub state : stateIn s ≤ 1
+  -- "Length exactly 48 + 145 x capacity." "Capacity 16 to 65,536, count at most capacity"
   pub size : length s ≡ 48 + 145 * capacityIn s
   pub least : 16 ≤ capacityIn s
   pub most : capacityIn s ≤ 65536
   pub count : countIn s ≤ capacityIn s
+  -- "depths 0 to 16, starting depth not above depth"
   pub started : startingIn s ≤ depthIn s
   pub depth : depthIn s ≤ 16
+  -- "An overfull book has depth 16 and count 0."
   pub burst : stateIn s ≡ 1 → (depthIn s ≡ 16) × (countIn s ≡ 0)
+  -- "strictly ascending by slot"
   pub rising : Rising (recordsIn s)
+  -- "each bucket agrees with its address, each index is below 2^24"
   pub fitting : Each Fitting (recordsIn s)
+  -- "each address shares at least depth bits with the overlay"
   pub near : Each (λ r. depthIn s ≤ sharedBits (addressIn r) (overlayIn s)) (recordsIn s)
+  -- "all bytes after the last record are zero"
   pub cleared : drop (48 + 145 * countIn s) s ≡ replicate (145 * (capacityIn s - countIn s)) 0

@@ -2,11 +2,11 @@
 
 -- records, and bytes that are a book
 pub mod Record
+pub mod Layout
 pub mod Rank
+pub mod Choice
 pub mod Order
 pub mod Shape
-pub mod Choice
-pub mod Layout
 pub mod Book
 pub mod Check
 pub mod Open

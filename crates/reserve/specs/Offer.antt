@@ -9,8 +9,7 @@ use Rattle.settling.specs.Answer.{outcome}
 use Rattle.reserve.specs.Record.{recordOf}
 use Rattle.reserve.specs.Shape.{shape}
 use Rattle.reserve.specs.Layout.{stateIn}
-use Rattle.reserve.specs.Book.{Book, read, write}
-use Rattle.reserve.specs.Edit.{inState}
+use Rattle.reserve.specs.Book.{Book, inState, read, write}
 use Rattle.reserve.specs.Check.{wellFormed}
 use Rattle.reserve.specs.Stamps.{stampAnswer}
 

@@ -1,10 +1,9 @@
 -- The rank is a strict total order: it is made of comparisons, one after another, and each of them is one.
 use mathlib.Core.Path.{_≡_, refl, sym, ap, _∙_}
-use mathlib.Core.Bool.{Bool, true, false, cond}
+use mathlib.Core.Bool.{true, false, false≢true}
 use mathlib.Core.Logic.{_⊎_, inl, inr}
 use mathlib.Core.List.{List}
 use Prim.Native.Nat.{ℕ}
-use native.Mathlib.Omega.{arith}
 use Rattle.octets.specs.declared.order.Order.{Order}
 use Rattle.octets.specs.declared.order.Order.the-variants.{Less, Same, More}
 use Rattle.octets.specs.Order.{byteOrder, andThen, turned}
@@ -76,13 +75,13 @@ rank-turned a b = ranks .turn a b
 
 less-true : (o : Order) → isLess o ≡ true → o ≡ Less
 less-true Less e = refl
-less-true Same e = let z : _≡_ {A = ℕ} 0 1 = ap (λ b. cond b 1 0) e in absurd (omega arith)
-less-true More e = let z : _≡_ {A = ℕ} 0 1 = ap (λ b. cond b 1 0) e in absurd (omega arith)
+less-true Same e = absurd (false≢true e)
+less-true More e = absurd (false≢true e)
 
 neither-less : (o : Order) → isLess o ≡ false → isLess (turned o) ≡ false → o ≡ Same
-neither-less Less e f = let z : _≡_ {A = ℕ} 1 0 = ap (λ b. cond b 1 0) e in absurd (omega arith)
+neither-less Less e f = absurd (false≢true (sym e))
 neither-less Same e f = refl
-neither-less More e f = let z : _≡_ {A = ℕ} 1 0 = ap (λ b. cond b 1 0) f in absurd (omega arith)
+neither-less More e f = absurd (false≢true (sym f))
 
 -- records that rank the same are the same
 pub rank-same : (a b : List ℕ) → rankOrder a b ≡ Same → a ≡ b

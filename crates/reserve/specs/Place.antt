@@ -2,9 +2,9 @@
 use mathlib.Core.List.{List, []}
 use Prim.Native.Nat.{ℕ}
 use Rattle.settling.proofs.Places.{Place}
-use Rattle.reserve.specs.Shape.{shape}
-use Rattle.reserve.specs.Layout.{overlayIn, capacityIn, recordsIn}
+use Rattle.reserve.specs.Shape.{shapeIn}
+use Rattle.reserve.specs.Layout.{recordsIn}
 
 -- the records before place i have lower slots than k, those from i on do not
 abbrev pub PlaceIn : List ℕ → ℕ → ℕ → Type 0
-PlaceIn s k i = Place (shape (overlayIn s) (capacityIn s)) [] (recordsIn s) k i
+PlaceIn s k i = Place (shapeIn s) [] (recordsIn s) k i

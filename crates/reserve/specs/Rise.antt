@@ -3,16 +3,11 @@ use mathlib.Core.List.{List, _++_}
 use mathlib.Core.Path.{_≡_}
 use Prim.Native.Nat.{ℕ, _+_, _*_}
 use lib.ListN.{length, take, drop}
-use Rattle.settling.specs.Rank.{Shape}
 use Rattle.settling.specs.Book.{inside}
-use Rattle.reserve.specs.Shape.{shape}
-use Rattle.reserve.specs.Layout.{overlayIn, capacityIn, cut, laid}
+use Rattle.reserve.specs.Shape.{shape, shapeIn}
+use Rattle.reserve.specs.Layout.{cut, laid}
 use Rattle.reserve.specs.Book.{Book}
 use Rattle.reserve.specs.Edit.{Stands}
-
--- the shape that a book's header fixes
-abbrev pub shapeIn : List ℕ → Shape (List ℕ)
-shapeIn s = shape (overlayIn s) (capacityIn s)
 
 -- of the first i of `count` records of a book those inside the depth
 abbrev pub insideIn : List ℕ → ℕ → ℕ → ℕ → List (List ℕ)

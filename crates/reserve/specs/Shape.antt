@@ -5,6 +5,11 @@ use Rattle.settling.specs.Rank.{Shape}
 use Rattle.reserve.specs.Record.{slot, nearOf}
 use Rattle.reserve.specs.Rank.{beats}
 use Rattle.reserve.specs.Order.{ranked}
+use Rattle.reserve.specs.Layout.{overlayIn, capacityIn}
 
 abbrev pub shape : List ℕ → ℕ → Shape (List ℕ)
 shape overlay capacity = record { slot = slot; beats = beats; near = nearOf overlay; capacity = capacity; top = 16; rank = ranked }
+
+-- the shape that a book's header fixes
+abbrev pub shapeIn : List ℕ → Shape (List ℕ)
+shapeIn s = shape (overlayIn s) (capacityIn s)

@@ -4,6 +4,8 @@ use octets::order::compare;
 ghost use mathlib.Core.Path.{_≡_};
 ghost use lib.ListN.{length, take};
 ghost use denote.Ref.{ptr};
+ghost use Rattle.octets.specs.Order.{byteOrder, andThen};
+ghost use Rattle.reserve.specs.Record.{addressIn, signatureIn};
 ghost use Rattle.reserve.specs.Rank.{rankOrder};
 ghost use Rattle.reserve.specs.Choice.{choice, higherOf, placeOf, preferred};
 
@@ -54,8 +56,7 @@ fn prefer(order: Order) -> Choice
     }
 }
 
-// How two records of one slot rank, Less where the first ranks higher. Address and signature stand side by side and the smaller wins in
-// both, so that one comparison does for both.
+// How two records of one slot rank, Less where the first ranks higher.
 pub(crate) fn rank(first: &[u8], second: &[u8]) -> Order
     requires { ⌜ (length (now first) ≡ 145) × (length (now second) ≡ 145) × (take 40 (now first) ≡ take 40 (now second)) ⌝ }
     ensures { λ r. ⌜ r ≡ rankOrder (now (first .entry)) (now (second .entry)) ⌝ }
@@ -63,6 +64,18 @@ pub(crate) fn rank(first: &[u8], second: &[u8]) -> Order
     match compare(&first[40..48], &second[40..48]) {
         Order::Less => Order::More,
         Order::More => Order::Less,
-        Order::Same => compare(&first[48..145], &second[48..145]),
+        Order::Same => rank_at_one_time(first, second),
+    }
+}
+
+// The smaller address, then the smaller signature bytes.
+fn rank_at_one_time(first: &[u8], second: &[u8]) -> Order
+    requires { ⌜ (length (now first) ≡ 145) × (length (now second) ≡ 145) ⌝ }
+    ensures { λ r. ⌜ r ≡ andThen (byteOrder (addressIn (now (first .entry))) (addressIn (now (second .entry)))) (byteOrder (signatureIn (now (first .entry))) (signatureIn (now (second .entry)))) ⌝ }
+{
+    match compare(&first[48..80], &second[48..80]) {
+        Order::Less => Order::Less,
+        Order::More => Order::More,
+        Order::Same => compare(&first[80..145], &second[80..145]),
     }
 }

@@ -13,7 +13,8 @@ ghost use Rattle.reserve.specs.Record.{slot, nearOf};
 ghost use Rattle.reserve.specs.Layout.{overlayIn, cut};
 ghost use Rattle.reserve.specs.Book.{Book};
 ghost use Rattle.reserve.specs.Edit.{Stands};
-ghost use Rattle.reserve.specs.Rise.{shapeIn, Packed, KeptInside};
+ghost use Rattle.reserve.specs.Shape.{shapeIn};
+ghost use Rattle.reserve.specs.Rise.{Packed, KeptInside};
 
 // How many records stayed before a place, and in all.
 pub(crate) struct Kept {

@@ -1,16 +1,14 @@
 -- The mark decides, and where it is right the version.
-use mathlib.Core.Path.{_≡_, refl, sym, ap, _∙_}
-use mathlib.Core.Bool.{Bool, _&&_}
+use mathlib.Core.Path.{_≡_, sym, ap, _∙_}
+use mathlib.Core.Bool.{_&&_}
 use Prim.Native.Nat.{ℕ}
 use native.Mathlib.Omega.{arith}
 use borrow.Author.Needs.{needs}
 use lib.Dec.{eqb}
-use lib.ListN.{length}
 use Rattle.octets.specs.declared.order.Order.{Order}
 use Rattle.octets.specs.declared.order.Order.the-variants.{Less, Same, More}
-use Rattle.octets.specs.Order.{byteOrder}
 use Rattle.octets.proofs.Numbers.{bigAt-fits}
-use Rattle.reserve.specs.Layout.{mark, markIn, versionIn}
+use Rattle.reserve.specs.Layout.{versionIn}
 use Rattle.reserve.specs.Check.{isSame, labelled}
 use Rattle.reserve.proofs.check.is_labelled.Statement.{statement}
 use Rattle.reserve.proofs.check.is_labelled.Tie as tie

@@ -1,5 +1,4 @@
 -- Each answer is that of the tests that led to it.
-use borrow.Author.Needs.{needs}
 use borrow.Author.Tests.{le-leb, lt-leb, eq-eqb, ne-eqb}
 use Rattle.reserve.specs.Check.{levelled}
 use Rattle.reserve.proofs.check.is_levelled.Statement.{statement}

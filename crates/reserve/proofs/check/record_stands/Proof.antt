@@ -1,11 +1,10 @@
 -- Each answer is that of the tests that led to it, on numbers that stand where the record has them.
 use mathlib.Core.Path.{_≡_, sym, ap, _∙_}
-use Prim.Native.Nat.{ℕ, _^_, _<_, _≤_}
+use Prim.Native.Nat.{_^_}
 use native.Mathlib.Omega.{arith}
 use borrow.Author.Needs.{needs}
 use borrow.Author.Tests.{le-ltb, lt-ltb, eq-eqb, ne-eqb}
 use lib.Dec.{leb}
-use lib.ListN.{length, take, drop}
 use Rattle.nearness.specs.Near.{bitsIn}
 use Rattle.octets.proofs.Edits.{part-length}
 use Rattle.reserve.specs.Record.{bucketIn, indexIn, addressIn, bucketOf}

@@ -5,7 +5,7 @@ use native.Mathlib.Nat.{sub-zero}
 use native.Mathlib.Omega.{arith}
 use borrow.Author.Needs.{needs}
 use borrow.Author.Tests.{not-true, not-false}
-use lib.ListN.{length, take, drop}
+use lib.ListN.{take, drop}
 use Rattle.octets.proofs.Edits.{part-length}
 use Rattle.reserve.specs.Layout.{cut, depthIn, overlayIn}
 use Rattle.reserve.specs.Check.{stands}

@@ -7,6 +7,7 @@ use Rattle.octets.specs.declared.order.Order.{Order}
 use Rattle.reserve.specs.Rank.{rankOrder}
 use Rattle.reserve.specs.Layout.{depthIn, recordsIn}
 use Rattle.reserve.specs.Book.{read}
+use Rattle.reserve.proofs.Cuts
 use Rattle.reserve.proofs.Enters
 use Rattle.reserve.proofs.Steps
 use borrow.Author.Needs.{needs}
@@ -49,7 +50,7 @@ returns c =
     let s = k .args .book .now in
     let r = k .args .given .now in
     let e = order t (m .enum-told .given .1) in
-    Enters.replaces s r (k .args .at) (k .pre) e _ (c .before .before .replace-record .ensures (read s) (depthIn s) (recordsIn s) (Steps.stands s r (k .pre .at .awaits)) (omega (arith, Enters.counted s, k .pre .there)))
+    Enters.replaces s r (k .args .at) (k .pre) e _ (c .before .before .replace-record .ensures (read s) (depthIn s) (recordsIn s) (Steps.stands s r (k .pre .at .awaits)) (omega (arith, Cuts.counted s, k .pre .there)))
 
 returns-2 : tie.Need-returns-2
 returns-2 c =

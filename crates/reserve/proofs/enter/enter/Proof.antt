@@ -8,17 +8,11 @@ use Rattle.octets.proofs.Edits.{part-length}
 use Rattle.reserve.specs.Record.{slot, nearOf}
 use Rattle.reserve.specs.Layout.{depthIn, overlayIn}
 use Rattle.reserve.specs.Place.{PlaceIn}
+use Rattle.reserve.proofs.Fields
 use Rattle.reserve.proofs.Enters
 use borrow.Author.Needs.{needs}
 use Rattle.reserve.proofs.enter.enter.Statement.{statement}
 use Rattle.reserve.proofs.enter.enter.Tie as tie
-use Rattle.reserve.proofs.enter.enter.Reads as reads
-use Rattle.reserve.proofs.enter.enter.Lts as lts
-use Rattle.reserve.proofs.enter.file.Reads as file-reads
-use Rattle.reserve.proofs.header.count.Reads as count-reads
-use Rattle.reserve.proofs.header.depth.Reads as depth-reads
-use Rattle.reserve.proofs.place.place.Reads as place-reads
-use Rattle.reserve.proofs.rise.near.Reads as near-reads
 
 near-requires : tie.Need-near-requires
 near-requires c κs =
@@ -38,7 +32,7 @@ place-requires : tie.Need-place-requires
 place-requires c κs =
     let k = c .before .before .before .before .before .before .before .before .before .before .before .before in
     let s = k .args .book .now in
-    (k .pre .formed, c .before .before .count .ensures ∙ Enters.count-read s (k .pre .formed), length-take-le 40 (k .args .given .now) (omega (arith, k .pre .fits .size)))
+    (k .pre .formed, c .before .before .count .ensures ∙ Fields.count-there s (omega (arith, k .pre .formed .size)), length-take-le 40 (k .args .given .now) (omega (arith, k .pre .fits .size)))
 
 file-requires : tie.Need-file-requires
 file-requires c κs =
@@ -53,7 +47,7 @@ file-requires c κs =
     let near : m .near .result ≡ nearOf (overlayIn s) (slot r) = m .near .ensures in
     let depth : d .depth .result ≡ depthIn s = d .depth .ensures in
     let key : slot (take 40 r) ≡ slot r = ap big (take-take 40 40 r (omega arith)) in
-    (record { awaits = k .pre; inside = omega (arith, near, depth, e .if1 .left); place = subst (λ x. PlaceIn s x (p .place .result)) key (p .place .ensures) }, n .count .ensures ∙ Enters.count-read s (k .pre .formed))
+    (record { awaits = k .pre; inside = omega (arith, near, depth, e .if1 .left); place = subst (λ x. PlaceIn s x (p .place .result)) key (p .place .ensures) }, n .count .ensures ∙ Fields.count-there s (omega (arith, k .pre .formed .size)))
 
 returns-2 : tie.Need-returns-2
 returns-2 c = c .before .before .file .ensures

@@ -10,8 +10,10 @@ use Rattle.settling.proofs.Counters.{Counters}
 use Rattle.reserve.specs.Record.{slot, nearOf}
 use Rattle.reserve.specs.Layout.{depthIn, overlayIn, capacityIn, recordsIn, cut}
 use Rattle.reserve.specs.Book.{read}
-use Rattle.reserve.specs.Rise.{shapeIn}
+use Rattle.reserve.specs.Shape.{shapeIn}
 use Rattle.reserve.proofs.Headed.{stands-length}
+use Rattle.reserve.proofs.Cuts
+use Rattle.reserve.proofs.Fields
 use Rattle.reserve.proofs.Enters
 use Rattle.reserve.proofs.Rises
 use Rattle.reserve.proofs.Steps
@@ -52,12 +54,12 @@ found t =
     let k = t .before .before .before .before .before .before .before .before .before .before .before .before in
     let s = k .args .book .now in
     let c = t .before .before .before in
-    let room : c .capacity .result ≡ capacityIn s = c .capacity .ensures ∙ Enters.capacity-read s (k .pre .0 .at .awaits .formed) in
+    let room : c .capacity .result ≡ capacityIn s = c .capacity .ensures ∙ Fields.capacity-there s (omega (arith, k .pre .0 .at .awaits .formed .size)) in
     let depth : c .before .before .depth .result ≡ depthIn s = c .before .before .depth .ensures in
     t .least-depth .ensures ∙ (λ i. least (room i) (depth i + 1) (drop (depth i + 1) (t .before .tally .result)))
 
 inlist : (t : Least) → let k = t .before .before .before .before .before .before .before .before .before .before .before .before in length (recordsIn (k .args .book .now)) ≡ k .args .count
-inlist t = let k = t .before .before .before .before .before .before .before .before .before .before .before .before in Enters.counted (k .args .book .now) ∙ sym (k .pre .1)
+inlist t = let k = t .before .before .before .before .before .before .before .before .before .before .before .before in Cuts.counted (k .args .book .now) ∙ sym (k .pre .1)
 
 tally-requires : tie.Need-tally-requires
 tally-requires c κs =

@@ -7,24 +7,20 @@ use Rattle.reserve.proofs.Ways
 use borrow.Author.Needs.{needs}
 use Rattle.reserve.proofs.offer.offer.Statement.{statement}
 use Rattle.reserve.proofs.offer.offer.Tie as tie
-use Rattle.reserve.proofs.offer.offer.Reads as reads
-use Rattle.reserve.proofs.offer.offer.Lts as lts
-use Rattle.reserve.proofs.check.check_book.Reads as check-book-reads
-use Rattle.reserve.proofs.offer.hear.Reads as hear-reads
 
 hear-requires : tie.Need-hear-requires
 hear-requires c κs =
     let t = c .before .before .before in
     let k = t .before .before .before .before .before .before .before in
     let s = k .args .book .now in
-    said s (bytes-known s (λ n. t .before .before .before .before .before .before .slice-known .given n .fits)) (Ways.formed-true s (sym (t .check-book .ensures) ∙ c .before .enum-told2 .given .1))
+    said s (bytes-known s (λ n. t .before .before .before .before .before .before .slice-known .given n .fits)) (Ways.formed-as s (sym (t .check-book .ensures) ∙ c .before .enum-told2 .given .1))
 
 returns : tie.Need-returns
 returns c =
     let t = c .before .before in
     let k = t .before .before .before .before .before .before .before in
     let s = k .args .book .now in
-    let w = Ways.way-ill s (k .args .batches .now) (k .args .address .now) (k .args .stamp .now) (k .args .account .now) (Ways.formed-false s (sym (t .check-book .ensures) ∙ c .enum-told .given .1)) in
+    let w = Ways.way-ill s (k .args .batches .now) (k .args .address .now) (k .args .stamp .now) (k .args .account .now) (Ways.formed-as s (sym (t .check-book .ensures) ∙ c .enum-told .given .1)) in
     (sym (ap (λ (x : Ended). x .number) w), sym (ap (λ (x : Ended). x .bytes) w))
 
 returns-2 : tie.Need-returns-2

@@ -5,9 +5,6 @@ use Rattle.reserve.proofs.Stamped
 use borrow.Author.Needs.{needs}
 use Rattle.reserve.proofs.offer.record_of.Statement.{statement}
 use Rattle.reserve.proofs.offer.record_of.Tie as tie
-use Rattle.reserve.proofs.offer.record_of.Reads as reads
-use Rattle.reserve.proofs.offer.record_of.Lts as lts
-use Rattle.octets.proofs.moving.put.Reads as put-reads
 
 returns : tie.Need-returns
 returns c =

@@ -5,10 +5,6 @@ use Rattle.reserve.specs.Awaits.{Awaits, Ends}
 use borrow.Author.Needs.{needs}
 use Rattle.reserve.proofs.offer.take.Statement.{statement}
 use Rattle.reserve.proofs.offer.take.Tie as tie
-use Rattle.reserve.proofs.offer.take.Reads as reads
-use Rattle.reserve.proofs.offer.take.Lts as lts
-use Rattle.reserve.proofs.enter.enter.Reads as enter-reads
-use Rattle.reserve.proofs.offer.record_of.Reads as record-of-reads
 
 record-of-requires : tie.Need-record-of-requires
 record-of-requires c κs = let k = c .before .before .before in (k .pre .1, k .pre .2)

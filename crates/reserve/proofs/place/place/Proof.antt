@@ -2,7 +2,7 @@
 use Prim.Native.Nat.{ℕ, _≤_, _<_, _-_, _+_, _/_}
 use mathlib.Core.Path.{_≡_, sym, ap, _∙_}
 use mathlib.Core.List.{List, []}
-use lib.ListN.{length, drop}
+use lib.ListN.{length}
 use native.Mathlib.Omega.{arith}
 use borrow.Author.Needs.{needs}
 use Rattle.octets.specs.declared.order.Order.the-variants.{Less}
@@ -11,10 +11,9 @@ use Rattle.octets.proofs.Bytes.{bytes-known}
 use Rattle.octets.proofs.Ordered.{less-not-same, less-not-more}
 use Rattle.settling.proofs.Places.{halving-start}
 use Rattle.reserve.specs.Record.{slot}
-use Rattle.reserve.specs.Shape.{shape}
-use Rattle.reserve.specs.Layout.{overlayIn, capacityIn, countIn, recordsIn}
-use Rattle.reserve.proofs.Laid.{length-cut}
-use Rattle.reserve.proofs.Records
+use Rattle.reserve.specs.Shape.{shapeIn}
+use Rattle.reserve.specs.Layout.{countIn, recordsIn}
+use Rattle.reserve.proofs.Cuts
 use Rattle.reserve.proofs.Halves
 use Rattle.reserve.proofs.place.place.Statement.{statement}
 use Rattle.reserve.proofs.place.place.Tie as tie
@@ -32,8 +31,8 @@ loop-holds : tie.Need-loop-holds Inv-loop μ-loop
 loop-holds c =
     let k = c .before .before in
     let s = k .args .book .now in
-    let n : length (recordsIn s) ≡ k .args .count = length-cut (countIn s) (drop 48 s) ∙ sym (k .pre .1) in
-    (omega arith, omega arith, rw n at (halving-start (shape (overlayIn s) (capacityIn s)) [] (recordsIn s) (slot (k .args .key .now))))
+    let n : length (recordsIn s) ≡ k .args .count = Cuts.counted s ∙ sym (k .pre .1) in
+    (omega arith, omega arith, rw n at (halving-start (shapeIn s) [] (recordsIn s) (slot (k .args .key .now))))
 
 -- within a turn: the middle, and what the comparison says of it
 abbrev Compared : Type 0
@@ -51,7 +50,7 @@ up w e =
     let key = k .args .key .now in
     let there : middle w < countIn s = omega (arith, k .pre .1) in
     Halves.halves-up s key (k .pre .0) (k .pre .2) (bytes-known key (λ n. l .before .shared-slice-known2 .given n .fits)) (l .loop .lo) (l .loop .hi) (middle w) (l .loop .inv .2) (omega arith) (omega arith)
-    (ap (λ (p : List ℕ). byteOrder p key) (sym (Records.cut-part (countIn s) s (middle w) 40 there (omega arith))) ∙ sym (w .compare .ensures) ∙ e)
+    (ap (λ (p : List ℕ). byteOrder p key) (sym (Cuts.cut-part (countIn s) s (middle w) 40 there (omega arith))) ∙ sym (w .compare .ensures) ∙ e)
 
 down : (w : Compared) → (w .compare .result ≡ Less → ⊥) → let l = w .before .before .before in let a = l .before .before .before .args in
     Halves.Between (a .book .now) (slot (a .key .now)) (l .loop .lo) (middle w)
@@ -62,7 +61,7 @@ down w e =
     let key = k .args .key .now in
     let there : middle w < countIn s = omega (arith, k .pre .1) in
     Halves.halves-down s key (k .pre .0) (k .pre .2) (bytes-known key (λ n. l .before .shared-slice-known2 .given n .fits)) (l .loop .lo) (l .loop .hi) (middle w) (l .loop .inv .2) (omega arith) (omega arith)
-    (λ f. e (w .compare .ensures ∙ ap (λ (p : List ℕ). byteOrder p key) (Records.cut-part (countIn s) s (middle w) 40 there (omega arith)) ∙ f))
+    (λ f. e (w .compare .ensures ∙ ap (λ (p : List ℕ). byteOrder p key) (Cuts.cut-part (countIn s) s (middle w) 40 there (omega arith)) ∙ f))
 
 loop-again : tie.Need-loop-again Inv-loop μ-loop
 loop-again c = (omega arith, omega arith, up (c .before .before) (c .enum-told .given .1))

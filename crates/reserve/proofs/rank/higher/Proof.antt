@@ -4,9 +4,6 @@ use Rattle.reserve.specs.Choice.{higherOf, placeOf}
 use borrow.Author.Needs.{needs}
 use Rattle.reserve.proofs.rank.higher.Statement.{statement}
 use Rattle.reserve.proofs.rank.higher.Tie as tie
-use Rattle.reserve.proofs.rank.higher.Reads as reads
-use Rattle.reserve.proofs.rank.higher.Lts as lts
-use Rattle.reserve.proofs.rank.choose.Reads as choose-reads
 
 returns : tie.Need-returns
 unfolding higherOf placeOf
