@@ -1,14 +1,14 @@
 -- What holds where a hash is drawn.
 use mathlib.Core.Bool.{Bool, true, false, cond, _&&_}
-use mathlib.Core.Path.{_≡_, refl, sym, ap, ap₂, _∙_}
-use mathlib.Core.List.{List, [], _∷_, map}
-use Prim.Native.Nat.{ℕ, zero, suc, _+_, _*_, _≤_}
+use mathlib.Core.Path.{_≡_, refl, ap, _∙_}
+use mathlib.Core.List.{List, [], map}
+use Prim.Native.Nat.{ℕ, zero, suc, _≤_}
 use native.Mathlib.Omega.{arith}
-use lib.Dec.{eqb, ltb, leb}
+use lib.Dec.{eqb, ltb}
 use lib.ListN.{length, take, drop, length-take, length-map, replicate}
-use borrow.Author.Tests.{ltb-false, eqb-true, leb-true}
+use borrow.Author.Tests.{ltb-false, eqb-true}
 use Rattle.reserve.specs.Record.{addressIn}
-use Rattle.reserve.specs.Layout.{stateIn, capacityIn, countIn, recordsIn, cut}
+use Rattle.reserve.specs.Layout.{stateIn, countIn, recordsIn, cut}
 use Rattle.reserve.specs.Check.{wellFormed}
 use Rattle.draw.specs.declared.answer.DrawAnswer.{DrawAnswer}
 use Rattle.draw.specs.declared.answer.DrawAnswer.the-variants.{Drawn, BadBook, Overfull, WrongLength, TooFew}

@@ -1,7 +1,7 @@
 -- What is read of a cell, and what is answered of it.
-use mathlib.Core.Bool.{Bool, true, false, cond, _&&_}
+use mathlib.Core.Bool.{Bool, true, false, cond}
 use mathlib.Core.Path.{_≡_, refl, sym, ap, ap₂, _∙_}
-use mathlib.Core.List.{List, [], _∷_, _++_, append-nil, append-assoc}
+use mathlib.Core.List.{List, [], _++_, append-nil}
 use Prim.Native.Nat.{ℕ, _+_, _-_, _≤_, _<_}
 use native.Mathlib.Omega.{arith}
 use lib.Dec.{eqb}
@@ -19,11 +19,9 @@ use Rattle.chunk.specs.Answer.{addressed, anchoredAddressed}
 use Rattle.chunk.specs.declared.addresses.Addressed.{Addressed}
 use Rattle.chunk.proofs.Answers.{addressed-done, anchored-addressed-done}
 use Rattle.chunk.proofs.Theorems.{address-length}
-use Rattle.reserve.specs.declared.check.BookAnswer.{BookAnswer}
 use Rattle.reserve.specs.declared.check.BookAnswer.the-variants.{WellFormed, NotWellFormed}
 use Rattle.reserve.specs.Layout.{stateIn}
 use Rattle.reserve.specs.Check.{wellFormed, checked, bookNumber}
-use Rattle.draw.specs.declared.answer.DrawAnswer.{DrawAnswer}
 use Rattle.draw.specs.declared.answer.DrawAnswer.the-variants.{Drawn, BadBook, Overfull, WrongLength, ShelfEnds, TooLong}
 use Rattle.draw.specs.Shelf.{Cell, ownAddress, pairOf, sizeIn, cellIn, matching, cellAnswer}
 use Rattle.draw.specs.Draw.{lentAnswer}

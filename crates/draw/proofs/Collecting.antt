@@ -1,8 +1,8 @@
 -- What holds along the shelf: what is left to answer and to gather is what there was at the start.
 use mathlib.Core.Bool.{Bool, true, false, cond, false≢true}
-use mathlib.Core.Path.{_≡_, refl, sym, ap, ap₂, _∙_}
-use mathlib.Core.List.{List, [], _∷_, map}
-use Prim.Native.Nat.{ℕ, suc, _+_, _-_, _*_, _≤_, _<_}
+use mathlib.Core.Path.{_≡_, refl, sym, ap, ap₂, subst, _∙_}
+use mathlib.Core.List.{List, map}
+use Prim.Native.Nat.{ℕ, _+_, _-_, _*_, _≤_, _<_}
 use native.Mathlib.Omega.{arith}
 use lib.Dec.{eqb}
 use lib.ListN.{length, take, drop, length-drop}
@@ -11,13 +11,13 @@ use Rattle.reserve.specs.Record.{addressIn}
 use Rattle.reserve.specs.Layout.{countIn, cut}
 use Rattle.draw.specs.declared.answer.DrawAnswer.{DrawAnswer}
 use Rattle.draw.specs.declared.answer.DrawAnswer.the-variants.{Drawn, BadBook, Overfull, WrongLength, ShelfEnds, TooLong, Mismatch, Left, TooFew}
+use Rattle.draw.specs.declared.drawing.CellRead.{CellRead}
 use Rattle.draw.specs.Answer.{isDrawn, andThen}
-use Rattle.draw.specs.Shelf.{pairOf, sizeIn, cellIn, behind, cellAnswer, shelfAnswer}
-use Rattle.draw.specs.Sample.{entered}
+use Rattle.draw.specs.Shelf.{behind, shelfAnswer}
 use Rattle.draw.specs.Draw.{addressesIn, sixteenDrawn}
-use Rattle.draw.specs.Pieces.{pieces, Collects}
+use Rattle.draw.specs.Pieces.{pieces, ReadsCell, Collects}
 use Rattle.draw.proofs.Pieces.{pieces-length, pieces-none}
-use Rattle.draw.proofs.Walking.{addressesFrom, addressAt, answer-turn, answer-last, aheadOf, sixteen-ahead, ahead-turn, ahead-last, behind-at}
+use Rattle.draw.proofs.Walking.{addressesFrom, addressAt, answer-turn, answer-last, aheadOf, sixteen-ahead, ahead-turn, ahead-last, rest-is, recorded-is, behind-at}
 
 -- ---- the first refusal speaks
 
@@ -54,6 +54,10 @@ refused-stays (Mismatch k) next h = refl
 refused-stays Left next h = refl
 refused-stays TooFew next h = refl
 
+first-speaks : (a next : DrawAnswer) (b : Bool) → isDrawn a ≡ b → andThen a next ≡ cond b next a
+first-speaks a next true h = drawn-goes-on a next h
+first-speaks a next false h = refused-stays a next h
+
 pub not-refused : {A : Type 0} (a : DrawAnswer) → isDrawn a ≡ false → a ≡ Drawn → A
 not-refused a h e = absurd (false≢true (sym h ∙ ap isDrawn e))
 
@@ -84,41 +88,41 @@ module _ (book shelf anchor : List ℕ) (records : ℕ) (best : List ℕ) where
       }
 
   module _ (at held i : ℕ) (w : Walked book shelf anchor records best at held i) where
-    module _ (ahead : i < records) where
-      pub walk-turn : (a : DrawAnswer) (size : ℕ) (next : List ℕ) (more : ℕ)
-          → a ≡ cellAnswer i (addressAt i book) (drop at shelf) → isDrawn a ≡ true
-          → size ≡ sizeIn (drop at shelf) → 10 + size ≤ length (drop at shelf)
-          → length next ≡ 1024 → more ≤ 16 → pieces more next ≡ take 16 (entered (pairOf anchor (cellIn (drop at shelf))) (pieces held best))
-          → Walked book shelf anchor records next (at + (10 + size)) more (i + 1)
-      walk-turn a size next more e h es fits ln lm held-then =
-          let rest = drop at shelf in
-          let further = shelfAnswer (i + 1) (addressesFrom (i + 1) book) (behind rest) in
-          let before : i < countIn book = omega (arith, w .counted) in
-          let moved = behind-at at size shelf es in
+    -- the cell there against record i, both as parts of what is lent
+    module _ (ahead : i < records) (r : CellRead) (next : List ℕ)
+        (given : ReadsCell (take (length shelf - at) (drop at shelf)) (take (96 + 145 * i + 32 - (96 + 145 * i)) (drop (96 + 145 * i) book)) i anchor best held r next) where
+      here : ReadsCell (drop at shelf) (addressAt i book) i anchor best held r next
+      here =
+          subst (λ (s : List ℕ). ReadsCell s (addressAt i book) i anchor best held r next) (rest-is at shelf)
+          (subst (λ (a : List ℕ). ReadsCell (take (length shelf - at) (drop at shelf)) a i anchor best held r next) (recorded-is i book) given)
+
+      before : i < countIn book
+      before = omega (arith, w .counted)
+
+      -- what is answered where this cell is passed, and where it is not
+      answered-on : (b : Bool) → isDrawn (r .answer) ≡ b → shelfAnswer 0 (addressesIn book) shelf ≡ cond b (shelfAnswer (i + 1) (addressesFrom (i + 1) book) (behind (drop at shelf))) (r .answer)
+      answered-on b h =
+          let further = shelfAnswer (i + 1) (addressesFrom (i + 1) book) (behind (drop at shelf)) in
+          w .to-answer ∙ answer-turn i book (drop at shelf) before ∙ ap (λ (x : DrawAnswer). andThen x further) (sym (here .answered)) ∙ first-speaks (r .answer) further b h
+
+      pub walk-turn : isDrawn (r .answer) ≡ true → Walked book shelf anchor records next (at + r .size) (r .held) (i + 1)
+      walk-turn h =
+          let drawn = is-drawn (r .answer) h in
+          let moved = behind-at at (r .size) shelf (here .measured drawn .0) in
           record {
             counted = w .counted;
             reached = omega arith;
-            inside = omega (arith, length-drop at shelf, w .inside);
-            most = lm;
-            size = ln;
-            to-answer =
-                w .to-answer ∙ answer-turn i book rest before ∙ drawn-goes-on (cellAnswer i (addressAt i book) rest) further (ap isDrawn (sym e) ∙ h)
-                ∙ ap (shelfAnswer (i + 1) (addressesFrom (i + 1) book)) moved;
+            inside = omega (arith, here .measured drawn .1, length-drop at shelf, w .inside);
+            most = here .most drawn .1;
+            size = here .most drawn .0;
+            to-answer = answered-on true h ∙ ap (shelfAnswer (i + 1) (addressesFrom (i + 1) book)) moved;
             to-gather =
-                w .to-gather ∙ ahead-turn anchor (pieces held best) (countIn book) i rest before
-                ∙ ap₂ (λ (l : List (List ℕ)) (s : List ℕ). aheadOf anchor l (countIn book - (i + 1)) s) (sym held-then) moved;
+                w .to-gather ∙ ahead-turn anchor (pieces held best) (countIn book) i (drop at shelf) before
+                ∙ ap₂ (λ (l : List (List ℕ)) (s : List ℕ). aheadOf anchor l (countIn book - (i + 1)) s) (sym (here .kept drawn)) moved;
           }
 
-      pub walk-refused : (a : DrawAnswer) → a ≡ cellAnswer i (addressAt i book) (drop at shelf) → isDrawn a ≡ false
-          → Collects book shelf anchor (record { answer = a; held = held }) best
-      walk-refused a e h =
-          let rest = drop at shelf in
-          let further = shelfAnswer (i + 1) (addressesFrom (i + 1) book) (behind rest) in
-          let before : i < countIn book = omega (arith, w .counted) in
-          record {
-            answered = sym (w .to-answer ∙ answer-turn i book rest before ∙ ap (λ (x : DrawAnswer). andThen x further) (sym e) ∙ refused-stays a further h);
-            kept = not-refused a h;
-          }
+      pub walk-refused : isDrawn (r .answer) ≡ false → Collects book shelf anchor (record { answer = r .answer; held = held }) next
+      walk-refused h = record { answered = sym (answered-on false h); kept = not-refused (r .answer) h }
 
     module _ (over : records ≤ i) where
       past : countIn book ≤ i

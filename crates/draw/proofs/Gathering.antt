@@ -1,16 +1,15 @@
 -- All pairs gathered, each different pair once and ascending; and the first sixteen of them.
-use mathlib.Core.Path.{_≡_, refl, sym, ap, _∙_, subst}
+use mathlib.Core.Path.{_≡_, refl, sym, ap, _∙_}
 use mathlib.Core.Logic.{_⊎_, inl, inr, ⊎-elim}
-use mathlib.Core.List.{List, [], _∷_, _++_, List·Memᴰ, List·Memᴰ·head, List·Memᴰ·tail, List·Memᴰ·cases-cons, List·Memᴰ·not-nil, Memᴰ·cast}
-use Prim.Native.Nat.{ℕ, zero, suc, _≤_}
+use mathlib.Core.List.{List, [], _∷_, List·Memᴰ, List·Memᴰ·head, List·Memᴰ·tail, List·Memᴰ·cases-cons, List·Memᴰ·not-nil, Memᴰ·cast}
+use Prim.Native.Nat.{ℕ, zero, suc}
 use native.Mathlib.Omega.{arith}
-use lib.ListN.{length, take, drop}
+use lib.ListN.{length, take}
 use lib.Seq.{take-take}
 use Rattle.octets.specs.Order.{byteOrder}
-use Rattle.octets.specs.declared.order.Order.the-variants.{Less, Same, More}
-use Rattle.octets.proofs.Ordered.{less-trans}
+use Rattle.octets.specs.declared.order.Order.the-variants.{Less}
 use Rattle.draw.specs.Sample.{entered, gathered, sixteen, Ascending, SixteenSmallest}
-use Rattle.draw.proofs.Entering.{entered-has, entered-keeps, entered-from, entered-ascending, ascending-nil, ascending-cons, ascending-head, ascending-tail, Below, take-entered, less-not-self, less-not-less}
+use Rattle.draw.proofs.Entering.{entered-has, entered-keeps, entered-from, entered-ascending, ascending-nil, ascending-cons, ascending-head, ascending-tail, take-entered, less-not-self, less-not-less}
 
 -- ---- members
 

@@ -1,12 +1,12 @@
 -- The 1,024 bytes, and that they are known by their commitment.
 use mathlib.Core.Path.{_≡_, refl, sym, ap, ap₂, _∙_}
-use mathlib.Core.Logic.{_⊎_, inl, inr, ⊎-elim}
+use mathlib.Core.Logic.{_⊎_, inl, ⊎-elim}
 use mathlib.Core.List.{List, [], _∷_, _++_, map, List·Memᴰ, List·Memᴰ·head, List·Memᴰ·tail, List·Memᴰ·cases-cons, List·Memᴰ·not-nil}
-use Prim.Native.Nat.{ℕ, suc, _+_, _-_, _*_, _≤_}
+use Prim.Native.Nat.{ℕ, _+_, _-_, _*_, _≤_}
 use native.Mathlib.Omega.{arith}
 use lib.ListN.{length, take, drop, replicate, length-append, length-take, length-drop, take-append-drop}
 use Rattle.keccak.specs.Collision.{Collision}
-use Rattle.chunk.specs.Tree.{padTo, addressOf, addressHashed}
+use Rattle.chunk.specs.Tree.{padTo, addressOf}
 use Rattle.chunk.proofs.Theorems.{address-length}
 use Rattle.chunk.proofs.Halves.{pad-behind}
 use Rattle.chunk.proofs.Roots.{chunk-same}

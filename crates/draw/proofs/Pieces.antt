@@ -1,13 +1,13 @@
 -- Pairs kept one behind the other in a buffer.
 use mathlib.Core.Path.{_≡_, refl, sym, ap, ap₂, _∙_}
 use mathlib.Core.List.{List, [], _∷_, _++_, append-assoc, append-nil}
-use Prim.Native.Nat.{ℕ, zero, suc, _+_, _-_, _*_, _≤_, _<_, min}
+use Prim.Native.Nat.{ℕ, zero, suc, _+_, _-_, _*_, _≤_, _<_}
 use native.Mathlib.Nat.{add-zero, zero-add, suc-add}
 use native.Mathlib.Omega.{arith}
 use lib.ListN.{length, take, drop, take-append-drop, length-take, length-drop}
 use lib.Seq.{drop-length, take-all, take-append-le, drop-append-le, drop-drop, length-take-le, take-add}
 use Rattle.octets.specs.Moving.{inserted}
-use Rattle.octets.proofs.Edits.{inserted-fits, part-of-take}
+use Rattle.octets.proofs.Edits.{inserted-fits}
 use Rattle.draw.specs.Pieces.{pieces}
 
 pub pieces-none : (s : List ℕ) → pieces 0 s ≡ []

@@ -1,11 +1,11 @@
 -- Where a pair belongs, looked for from the front; and the first sixteen once it stands there.
-use mathlib.Core.Path.{_≡_, refl, sym, ap, ap₂, _∙_}
-use mathlib.Core.List.{List, [], _∷_, _++_, append-assoc, append-nil}
+use mathlib.Core.Path.{_≡_, refl, sym, ap, _∙_}
+use mathlib.Core.List.{List, [], _∷_, _++_, append-assoc}
 use Prim.Native.Nat.{ℕ, zero, suc, _+_, _-_, _*_, _≤_, _<_, min}
 use native.Mathlib.Decide.{decLe}
 use native.Mathlib.Omega.{arith}
 use lib.ListN.{length, take, drop, take-append-drop, length-take, drop-of-length-le}
-use lib.Seq.{take-take, take-all, take-at, take-add, length-take-le}
+use lib.Seq.{take-all, take-at, take-add, length-take-le}
 use Rattle.octets.specs.Order.{byteOrder}
 use Rattle.octets.specs.Moving.{inserted}
 use Rattle.octets.specs.declared.order.Order.{Order}

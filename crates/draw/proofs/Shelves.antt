@@ -1,12 +1,12 @@
 -- What a shelf holds where nothing is wrong with it, and two such shelves beside one book.
 use mathlib.Core.Bool.{Bool, true, false, cond}
 use mathlib.Core.Path.{_≡_, refl, sym, ap, ap₂, _∙_}
-use mathlib.Core.Logic.{_⊎_, inl, inr}
+use mathlib.Core.Logic.{_⊎_, inl}
 use mathlib.Core.List.{List, [], _∷_, _++_, map}
-use Prim.Native.Nat.{ℕ, zero, suc, _+_, _≤_}
+use Prim.Native.Nat.{ℕ, suc, _+_, _≤_}
 use native.Mathlib.Omega.{arith}
-use lib.Dec.{eqb, ltb}
-use lib.ListN.{length, take, drop, length-take}
+use lib.Dec.{ltb}
+use lib.ListN.{length, length-take}
 use lib.Seq.{length-take-le}
 use borrow.Author.Tests.{ltb-false}
 use Rattle.octets.specs.Order.{byteOrder}
@@ -14,8 +14,7 @@ use Rattle.octets.specs.declared.order.Order.{Order}
 use Rattle.octets.specs.declared.order.Order.the-variants as Ordered
 use Rattle.octets.proofs.Ordered.{same-equal}
 use Rattle.keccak.specs.Collision.{Collision}
-use Rattle.chunk.specs.Tree.{padTo, hash, root, addressOf, addressHashed}
-use Rattle.chunk.proofs.Theorems.{address-length}
+use Rattle.chunk.specs.Tree.{padTo, hash, root, addressOf}
 use Rattle.chunk.proofs.Roots.{chunk-same, address-is}
 use Rattle.chunk.proofs.Collide.{Among, among-left, among-right, _>>=_}
 use Rattle.draw.specs.declared.answer.DrawAnswer.{DrawAnswer}

@@ -1,6 +1,6 @@
 -- The sentences of specs/Theorems.antt, proved.
-use mathlib.Core.Path.{_≡_, sym, ap, ap₂, _∙_, subst}
-use mathlib.Core.Logic.{_⊎_, inl, inr}
+use mathlib.Core.Path.{_≡_, sym, ap, _∙_, subst}
+use mathlib.Core.Logic.{_⊎_, inl}
 use mathlib.Core.List.{List, [], _++_, map}
 use Prim.Native.Nat.{ℕ}
 use lib.ListN.{length}
@@ -9,7 +9,7 @@ use Rattle.chunk.proofs.Collide.{Among, among-left, among-right, _>>=_}
 use Rattle.draw.specs.declared.answer.DrawAnswer.the-variants.{Drawn}
 use Rattle.draw.specs.Shelf.{Cell, ownAddress, pairOf, cellsHashed, cellsOn, shelfAnswer}
 use Rattle.draw.specs.Sample.{gathered, sixteen, written, commitmentOf, commitmentHashed}
-use Rattle.draw.specs.Draw.{addressesIn, cellsDrawn, pairsDrawn, sixteenDrawn, drawAnswer, drawn, drawHashed}
+use Rattle.draw.specs.Draw.{addressesIn, cellsDrawn, pairsDrawn, sixteenDrawn, drawn, drawHashed}
 use Rattle.draw.specs.Theorems.{EachHashesToItsRecord, TheSixteenSmallest, SixteenOnce, EachDifferentPairOnce, OrderDoesNotMatter, OneAnchorOneHash, OneHashOneSample}
 use Rattle.draw.proofs.Shelves.{shelf-drawn, shelves-same}
 use Rattle.draw.proofs.Gathering.{all-from, all-ascending, gathered-has, sixteen-same, sixteen-smallest}

@@ -1,26 +1,22 @@
 -- The walk along the shelf, one record after another.
 use mathlib.Core.Bool.{Bool, true, false, _&&_, false≢true}
-use mathlib.Core.Path.{_≡_, refl, sym, ap, ap₂, _∙_}
-use mathlib.Core.List.{List, [], _∷_, _++_, map}
-use Prim.Native.Nat.{ℕ, zero, suc, _+_, _-_, _*_, _≤_, _<_}
+use mathlib.Core.Path.{_≡_, refl, sym, ap, _∙_}
+use mathlib.Core.List.{List, [], _∷_, map}
+use Prim.Native.Nat.{ℕ, suc, _+_, _-_, _*_, _≤_, _<_}
 use native.Mathlib.Numerals.{add-one}
 use native.Mathlib.Omega.{arith}
-use lib.ListN.{length, take, drop}
+use lib.ListN.{length, take, drop, length-drop}
 use lib.Seq.{take-take, take-all, drop-drop}
 use Rattle.octets.proofs.Edits.{part-of-take}
 use Rattle.reserve.specs.Record.{addressIn}
-use Rattle.reserve.specs.Layout.{capacityIn, countIn, recordsIn, cut}
+use Rattle.reserve.specs.Layout.{capacityIn, countIn, cut}
 use Rattle.reserve.specs.Check.{labelled, sized, wellFormed}
 use Rattle.reserve.proofs.Cuts.{cut-first, cut-last}
 use Rattle.reserve.proofs.Tested.{sized-true}
-use Rattle.draw.specs.declared.answer.DrawAnswer.{DrawAnswer}
-use Rattle.draw.specs.declared.answer.DrawAnswer.the-variants.{Drawn}
 use Rattle.draw.specs.Answer.{andThen}
-use Rattle.draw.specs.Shelf.{Cell, pairOf, sizeIn, cellIn, behind, cellsOn, cellAnswer, shelfAnswer}
+use Rattle.draw.specs.Shelf.{pairOf, sizeIn, cellIn, behind, cellsOn, cellAnswer, shelfAnswer}
 use Rattle.draw.specs.Sample.{entered, gathered, sixteen}
-use Rattle.draw.specs.Draw.{addressesIn, cellsDrawn, pairsDrawn, sixteenDrawn}
-use Rattle.draw.specs.Pieces.{pieces}
-use Rattle.draw.proofs.Pieces.{pieces-length}
+use Rattle.draw.specs.Draw.{cellsDrawn, pairsDrawn, sixteenDrawn}
 use Rattle.draw.proofs.Gathering.{take-gathered}
 
 -- the addresses of the records from place i on
@@ -73,11 +69,19 @@ ahead-last anchor held n i s h k =
     let e : n - i ≡ 0 = omega arith in
     ap (λ (j : ℕ). aheadOf anchor held j s) e ∙ take-all 16 held k
 
--- ---- the rest of the shelf
+-- ---- what lies ahead in the bytes
 
-pub behind-at : (at size : ℕ) (shelf : List ℕ) → size ≡ sizeIn (drop at shelf) → behind (drop at shelf) ≡ drop (at + (10 + size)) shelf
+pub rest-is : (at : ℕ) (shelf : List ℕ) → take (length shelf - at) (drop at shelf) ≡ drop at shelf
+rest-is at shelf = take-all (length shelf - at) (drop at shelf) (omega (arith, length-drop at shelf))
+
+pub recorded-is : (i : ℕ) (book : List ℕ) → take (96 + 145 * i + 32 - (96 + 145 * i)) (drop (96 + 145 * i) book) ≡ addressAt i book
+recorded-is i book =
+    let width : 96 + 145 * i + 32 - (96 + 145 * i) ≡ 32 = omega arith in
+    ap (λ (n : ℕ). take n (drop (96 + 145 * i) book)) width
+
+pub behind-at : (at size : ℕ) (shelf : List ℕ) → size ≡ 10 + sizeIn (drop at shelf) → behind (drop at shelf) ≡ drop (at + size) shelf
 unfolding behind
-behind-at at size shelf e = drop-drop (10 + sizeIn (drop at shelf)) at shelf ∙ ap (λ (n : ℕ). drop (at + (10 + n)) shelf) (sym e)
+behind-at at size shelf e = drop-drop (10 + sizeIn (drop at shelf)) at shelf ∙ ap (λ (n : ℕ). drop (at + n) shelf) (sym e)
 
 -- ---- what being well formed gives
 

@@ -1,5 +1,5 @@
 -- A draw from a book, a shelf, an anchor and a buffer for the sample: what it answers and hands back, on every input.
-use mathlib.Core.Bool.{Bool, cond, _&&_}
+use mathlib.Core.Bool.{cond, _&&_}
 use mathlib.Core.List.{List, _++_, map}
 use Prim.Native.Nat.{ℕ}
 use lib.Dec.{eqb, ltb}

@@ -15,11 +15,18 @@ ghost use Prim.Native.Nat.{_+_, _*_, _≤_};
 ghost use lib.ListN.{length};
 ghost use Rattle.reserve.specs.Layout.{countIn};
 ghost use Rattle.draw.specs.Draw.{lentAnswer, drawn, sampleAfter};
-ghost use Rattle.draw.specs.Pieces.{Collects};
+ghost use Rattle.draw.specs.Pieces.{Collects, ReadsCell};
 
 // How the walk along the shelf ended, and how many pairs are held then.
 pub(crate) struct Collected {
     pub answer: DrawAnswer,
+    pub held: usize,
+}
+
+// What one cell answers, how many bytes it takes on the shelf, and how many pairs are held behind it.
+pub(crate) struct CellRead {
+    pub answer: DrawAnswer,
+    pub size: usize,
     pub held: usize,
 }
 
@@ -80,17 +87,22 @@ fn collect(book: &[u8], shelf: &[u8], anchor: &[u8], best: &mut [u8]) -> Collect
     let mut held = 0;
     let mut i = 0;
     while i < records {
-        let rest = &shelf[at..];
         let start = 96 + 145 * i;
         let end = start + 32;
-        let recorded = &book[start..end];
-        let answer = cell_answer(rest, recorded, i as u32);
+        let read = read_cell(
+            &shelf[at..],
+            &book[start..end],
+            i as u32,
+            anchor,
+            best,
+            held,
+        );
+        let answer = read.answer;
         if !answer.is_drawn() {
             return Collected { answer, held };
         }
-        let joined = pair(rest, recorded, anchor);
-        held = enter(best, held, &joined);
-        at += 10 + read16(rest, 8) as usize;
+        held = read.held;
+        at += read.size;
         i += 1;
     }
     if at < shelf.len() {
@@ -102,5 +114,35 @@ fn collect(book: &[u8], shelf: &[u8], anchor: &[u8], best: &mut [u8]) -> Collect
     Collected {
         answer: DrawAnswer::Drawn,
         held,
+    }
+}
+
+// The cell at the head of `rest` against its record, and its pair among the `held` pairs of `best`.
+fn read_cell(
+    rest: &[u8],
+    recorded: &[u8],
+    place: u32,
+    anchor: &[u8],
+    best: &mut [u8],
+    held: usize,
+) -> CellRead
+    requires { ⌜ (length (now anchor) ≡ 32) × ((length (now best) ≡ 1024) × (held ≤ 16)) ⌝ }
+    ensures { λ r. ⌜ ReadsCell (now (rest .entry)) (now (recorded .entry)) place (now (anchor .entry)) (now (best .entry)) held r (now (best .exit)) ⌝ }
+{
+    let answer = cell_answer(rest, recorded, place);
+    if !answer.is_drawn() {
+        return CellRead {
+            answer,
+            size: 0,
+            held,
+        };
+    }
+    let joined = pair(rest, recorded, anchor);
+    let more = enter(best, held, &joined);
+    let size = 10 + read16(rest, 8) as usize;
+    CellRead {
+        answer,
+        size,
+        held: more,
     }
 }

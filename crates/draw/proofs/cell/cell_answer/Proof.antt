@@ -1,10 +1,8 @@
 -- Each refusal is that of the part that fails; past them the comparison decides.
 use mathlib.Core.Path.{_≡_, sym, ap, _∙_}
-use Prim.Native.Nat.{ℕ, _+_}
 use native.Mathlib.Omega.{arith}
 use borrow.Author.Needs.{needs}
-use lib.ListN.{length}
-use Rattle.draw.specs.Shelf.{sizeIn, matching, cellAnswer}
+use Rattle.draw.specs.Shelf.{matching, cellAnswer}
 use Rattle.draw.proofs.Cells.{cell-short, cell-long, cell-cut, size-read, cell-told}
 use Rattle.draw.proofs.cell.cell_answer.Statement.{statement}
 use Rattle.draw.proofs.cell.cell_answer.Tie as tie

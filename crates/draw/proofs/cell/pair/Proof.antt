@@ -1,10 +1,9 @@
 -- The anchored address in front, the record's address behind it.
-use mathlib.Core.Path.{_≡_, sym, ap, _∙_}
-use Prim.Native.Nat.{ℕ, _+_}
+use Prim.Native.Nat.{ℕ}
 use native.Mathlib.Omega.{arith}
 use borrow.Author.Needs.{needs}
 use lib.ListN.{length, replicate, length-replicate}
-use Rattle.draw.specs.Shelf.{sizeIn, cellIn, pairOf}
+use Rattle.draw.specs.Shelf.{cellIn}
 use Rattle.draw.proofs.Cells.{size-read, anchored-read, pair-put}
 use Rattle.draw.proofs.cell.pair.Statement.{statement}
 use Rattle.draw.proofs.cell.pair.Tie as tie

@@ -1,12 +1,12 @@
 -- The first refusal speaks; past them the sixteen are written and hashed.
 use mathlib.Core.Path.{_≡_, sym, ap, _∙_}
-use mathlib.Core.Bool.{true, false}
-use Prim.Native.Nat.{ℕ, _+_, _*_, _≤_, _<_}
+use mathlib.Core.Bool.{true}
+use Prim.Native.Nat.{_<_}
 use native.Mathlib.Omega.{arith}
 use borrow.Author.Needs.{needs}
 use borrow.Author.Tests.{not-true, not-false}
 use lib.ListN.{length}
-use Rattle.draw.specs.declared.answer.DrawAnswer.the-variants.{Drawn, TooFew}
+use Rattle.draw.specs.declared.answer.DrawAnswer.the-variants.{Drawn}
 use Rattle.draw.specs.Answer.{isDrawn}
 use Rattle.draw.specs.Draw.{sixteenDrawn, lentAnswer}
 use Rattle.draw.specs.Pieces.{pieces}

@@ -1,7 +1,6 @@
 -- Held already, past the sixteenth, or put in its place.
-use mathlib.Core.Path.{_≡_, sym, ap, subst, _∙_}
-use mathlib.Core.List.{List}
-use Prim.Native.Nat.{ℕ, _+_, _*_}
+use mathlib.Core.Path.{ap, subst, _∙_}
+use Prim.Native.Nat.{_+_, _*_}
 use native.Mathlib.Omega.{arith}
 use borrow.Author.Needs.{needs}
 use lib.ListN.{length}
@@ -35,7 +34,7 @@ returns c =
     let a = w .before .before .before .before .args in
     let pre = w .before .before .before .before .pre in
     let belongs = subst (λ (r : Found). Belongs r (a .pair .now) (pieces (a .held) (a .best .now))) (c .enum-told .given .1) (w .place-of .ensures) in
-    (pre .0, (pre .1 .0, enter-held (a .best .now) (a .pair .now) (a .held) (pre .1 .0) belongs))
+    (pre .0, (pre .1 .0, enter-held (a .best .now) (a .pair .now) (a .held) (pre .1 .0) (belongs .1)))
 
 same-length-2 : tie.Need-same-length-2
 same-length-2 c = search needs
