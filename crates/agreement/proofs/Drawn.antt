@@ -1,7 +1,6 @@
 -- What a draw left where it answered 0.
 use mathlib.Core.Path.{_≡_, refl, sym, ap, _∙_, subst}
-use mathlib.Core.Logic.{_⊎_, inl, inr, ⊎-elim}
-use mathlib.Core.List.{List, [], _∷_, map, List·Memᴰ, List·Memᴰ·head, List·Memᴰ·tail, List·Memᴰ·cases-cons, List·Memᴰ·not-nil}
+use mathlib.Core.List.{List, [], map, List·Memᴰ, Memᴰ·map, Memᴰ·of-map}
 use Prim.Native.Nat.{ℕ, _*_}
 use native.Mathlib.Omega.{arith}
 use lib.ListN.{length}
@@ -11,11 +10,11 @@ use Rattle.reserve.specs.Layout.{recordsIn}
 use Rattle.draw.specs.declared.answer.DrawAnswer.{DrawAnswer}
 use Rattle.draw.specs.declared.answer.DrawAnswer.the-variants.{Drawn, BadBook, Overfull, WrongLength, ShelfEnds, TooLong, Mismatch, Left, TooFew}
 use Rattle.draw.specs.Answer.{drawNumber}
-use Rattle.draw.specs.Shelf.{Cell, ownAddress, pairOf}
+use Rattle.draw.specs.Shelf.{ownAddress, pairOf}
 use Rattle.draw.specs.Sample.{written, sampleSpan, commitmentOf}
-use Rattle.draw.specs.Draw.{addressesIn, cellsDrawn, pairsDrawn, sixteenDrawn, drawAnswer, drawn, sampleAfter}
+use Rattle.draw.specs.Draw.{cellsDrawn, pairsDrawn, sixteenDrawn, drawAnswer, drawn, sampleAfter}
 use Rattle.draw.proofs.Laying.{written-length}
-use Rattle.draw.proofs.Answered.{draw-good, drawn-commitment, drawn-sample, sixteen-sized}
+use Rattle.draw.proofs.Answered.{drawn-commitment, drawn-sample, sixteen-sized}
 use Rattle.draw.proofs.Theorems as draws
 use Rattle.agreement.specs.Theorems.{GotHash, OfRecord, Sampled}
 
@@ -35,24 +34,6 @@ pub got-drawn : (book shelf anchor sample : List ℕ) → GotHash book shelf anc
 unfolding drawn
 got-drawn book shelf anchor sample = zero-drawn (drawAnswer book shelf anchor sample)
 
--- ---- members of a list mapped
-
-record Comes {A B : Type 0} (f : A → B) (l : List A) (y : B) : Type 0 where
-  from : A
-  member : List·Memᴰ from l
-  maps : y ≡ f from
-
-comes : {A B : Type 0} (f : A → B) (l : List A) (y : B) → List·Memᴰ y (map f l) → Comes f l y
-comes f [] y m = absurd (List·Memᴰ·not-nil m)
-comes f (x ∷ l) y m =
-    ⊎-elim (λ e. record { from = x; member = List·Memᴰ·head refl; maps = e })
-    (λ k. let c = comes f l y k in record { from = c .from; member = List·Memᴰ·tail (c .member); maps = c .maps })
-    (List·Memᴰ·cases-cons m)
-
-goes : {A B : Type 0} (f : A → B) (l : List A) (x : A) → List·Memᴰ x l → List·Memᴰ (f x) (map f l)
-goes f (y ∷ l) x (List·Memᴰ·head e) = List·Memᴰ·head (ap f e)
-goes f (y ∷ l) x (List·Memᴰ·tail m) = List·Memᴰ·tail (goes f l x m)
-
 -- ---- the sample
 
 module _ (book shelf anchor sample : List ℕ) (e : drawAnswer book shelf anchor sample ≡ Drawn) where
@@ -65,10 +46,10 @@ module _ (book shelf anchor sample : List ℕ) (e : drawAnswer book shelf anchor
   of-record : (pair : List ℕ) → List·Memᴰ pair (pairsDrawn book shelf anchor) → OfRecord book shelf anchor pair
   unfolding pairsDrawn
   of-record pair m =
-      let c = comes (pairOf anchor) (cellsDrawn book shelf) pair m in
-      let r = comes addressIn (recordsIn book) (ownAddress (c .from))
-      (subst (λ (l : List (List ℕ)). List·Memᴰ (ownAddress (c .from)) l) shelved (goes ownAddress (cellsDrawn book shelf) (c .from) (c .member))) in
-      record { held = r .from; chunk = c .from; in-book = r .member; on-shelf = c .member; hashes = r .maps; is-pair = c .maps }
+      let c = Memᴰ·of-map (pairOf anchor) (cellsDrawn book shelf) m in
+      let there = subst (λ (l : List (List ℕ)). List·Memᴰ (ownAddress (c .0)) l) shelved (Memᴰ·map ownAddress (c .1)) in
+      let r = Memᴰ·of-map addressIn (recordsIn book) there in
+      record { held = r .0; chunk = c .0; in-book = r .1; on-shelf = c .1; hashes = sym (r .2); is-pair = sym (c .2) }
 
   bytes : sampleAfter book shelf anchor sample ≡ written chosen
   bytes = drawn-sample book shelf anchor sample e

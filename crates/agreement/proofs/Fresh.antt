@@ -1,20 +1,19 @@
--- What `open` left where it answered 0.
-use mathlib.Core.Path.{_≡_, refl, sym, ap, _∙_}
+-- Where `open` answers 0, and what it leaves then.
+use mathlib.Core.Path.{_≡_, refl, sym, ap}
 use mathlib.Core.Bool.{Bool, true, false, cond, _&&_}
 use mathlib.Core.List.{List, [], _∷_, List·Memᴰ, List·Memᴰ·head, List·Memᴰ·tail}
-use Prim.Native.Nat.{ℕ, _+_, _*_}
+use Prim.Native.Nat.{ℕ, _+_, _*_, _≤_}
 use native.Mathlib.Omega.{arith}
 use lib.Dec.{eqb}
 use lib.ListN.{length}
-use borrow.Author.Tests.{eqb-true}
+use borrow.Author.Tests.{eqb-true, le-leb}
 use Rattle.octets.specs.Bytes.{Bytes}
 use Rattle.settling.specs.Meaning.{Each}
 use Rattle.reserve.specs.declared.open.OpenAnswer.{OpenAnswer}
 use Rattle.reserve.specs.declared.open.OpenAnswer.the-variants.{Done, OutOfRange, WrongLength}
-use Rattle.reserve.specs.Book.{write}
 use Rattle.reserve.specs.Open.{inRange, freshBook, left, openAnswer, openBytes, openNumber}
 use Rattle.reserve.specs.Histories.{Openable, opened}
-use Rattle.reserve.proofs.Opening.{in-range}
+use Rattle.reserve.proofs.Opening.{in-range, opens}
 
 -- 0 is the number of no other answer
 done : (a : OpenAnswer) → openNumber a ≡ 0 → a ≡ Done
@@ -38,6 +37,15 @@ module _ (buffer overlay : List ℕ) (capacity starting : ℕ) (z : openNumber (
           record { size = eqb-true _ _ k; bytes = byte; least = bounds .0; most = bounds .1; depth = bounds .2 }
       by true false b h k e = absurd (omega (arith, e))
       by false o b h k e = absurd (omega (arith, e))
+
+within : (capacity starting : ℕ) → 16 ≤ capacity → capacity ≤ 65536 → starting ≤ 16 → inRange capacity starting ≡ true
+unfolding inRange
+within capacity starting p q r = rw (le-leb 16 capacity p, le-leb capacity 65536 q, le-leb starting 16 r) refl
+
+pub opens-within : (buffer overlay : List ℕ) (capacity starting : ℕ) → 16 ≤ capacity → capacity ≤ 65536 → starting ≤ 16
+    → length overlay ≡ 32 → length buffer ≡ 48 + 145 * capacity → openNumber (openAnswer buffer overlay capacity starting) ≡ 0
+opens-within buffer overlay capacity starting p q r h k =
+    ap openNumber (sym (opens buffer overlay capacity starting (within capacity starting p q r) h k .0))
 
 -- what holds of each member holds of each of a list that has no others
 pub each-of : {A : Type 0} (P : A → Type 0) (l : List A) → ((x : A) → List·Memᴰ x l → P x) → Each P l

@@ -1,6 +1,7 @@
 -- The sentences of specs/Theorems.antt, proved.
-use mathlib.Core.Path.{_≡_, sym, ap, _∙_}
-use mathlib.Core.List.{List, List·Memᴰ}
+use mathlib.Core.Path.{_≡_, refl, sym, ap, _∙_}
+use mathlib.Core.Logic.{⊎-elim}
+use mathlib.Core.List.{List, Memᴰ·append-right, List·Memᴰ·append-cases}
 use Prim.Native.Nat.{ℕ}
 use Rattle.settling.specs.Meaning.{Each}
 use Rattle.settling.proofs.Members.{each-member}
@@ -8,8 +9,8 @@ use Rattle.reserve.specs.Histories.{Offer, ByteOffer, heard, opened}
 use Rattle.reserve.proofs.Theorems.{same-members-same-bytes}
 use Rattle.draw.specs.Draw.{addressesIn}
 use Rattle.draw.proofs.Theorems.{one-anchor-one-hash, one-hash-one-sample}
-use Rattle.agreement.specs.Theorems.{Became, SameOffers, SameOffersSameBytes, SameOffersSameHash, SameHashSamePairs, TheSample, Demand3}
-use Rattle.agreement.proofs.Fresh.{fresh-bytes, fresh-openable, each-of}
+use Rattle.agreement.specs.Theorems.{Became, SameOffersSameBytes, EveryOpening, OrderAndRepeats, SameOffersSameHash, SameHashSamePairs, TheSample, Demand3}
+use Rattle.agreement.proofs.Fresh.{fresh-bytes, fresh-openable, opens-within, each-of}
 use Rattle.agreement.proofs.Drawn.{got-drawn, sampled}
 
 became : (overlay : List ℕ) (capacity starting : ℕ) (batches : List ℕ) (s : List Offer) (book : List ℕ)
@@ -24,6 +25,16 @@ same-offers-same-bytes overlay capacity starting batches s t book book′ byte b
     ∙ same-members-same-bytes overlay capacity starting batches s t (fresh-openable (h .buffer) overlay capacity starting (h .opened) byte) bs bt
     (λ o r e m. same .there o m) (λ o r e m. same .back o m)
     ∙ sym (became overlay capacity starting batches t book′ k)
+
+pub every-opening : EveryOpening
+every-opening overlay capacity starting batches s buffer p q r h k =
+    record { buffer = buffer; opened = opens-within buffer overlay capacity starting p q r h k; end = refl }
+
+pub order-and-repeats : OrderAndRepeats
+order-and-repeats s t = record {
+  there = λ o m. Memᴰ·append-right t m;
+  back = λ o m. ⊎-elim (λ k. Memᴰ·append-right s k) (λ k. k) (List·Memᴰ·append-cases t m);
+}
 
 pub same-offers-same-hash : SameOffersSameHash
 same-offers-same-hash overlay capacity starting batches s t book book′ byte bs h k same shelf shelf′ anchor sample sample′ e f =

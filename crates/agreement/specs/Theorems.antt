@@ -3,7 +3,7 @@
 use mathlib.Core.Path.{_≡_}
 use mathlib.Core.Logic.{_⊎_}
 use mathlib.Core.List.{List, [], _++_, map, List·Memᴰ}
-use Prim.Native.Nat.{ℕ}
+use Prim.Native.Nat.{ℕ, _+_, _*_, _≤_}
 use lib.ListN.{length}
 use Rattle.octets.specs.Bytes.{Bytes}
 use Rattle.keccak.specs.Collision.{Collision}
@@ -40,6 +40,17 @@ SameOffersSameBytes =
     (overlay : List ℕ) (capacity starting : ℕ) (batches : List ℕ) (s t : List Offer) (book book′ : List ℕ) → Bytes overlay → Each ByteOffer s
     → Became overlay capacity starting batches s book → Became overlay capacity starting batches t book′ → SameOffers s t
     → book ≡ book′
+
+-- These hypotheses are met: within document 01's bounds every buffer of the right length becomes such a book, whatever it hears ..
+abbrev pub EveryOpening : Type 0
+EveryOpening =
+    (overlay : List ℕ) (capacity starting : ℕ) (batches : List ℕ) (s : List Offer) (buffer : List ℕ) → 16 ≤ capacity → capacity ≤ 65536 → starting ≤ 16
+    → length overlay ≡ 32 → length buffer ≡ 48 + 145 * capacity
+    → Became overlay capacity starting batches s (heard batches (openBytes buffer overlay capacity starting) s)
+
+-- .. and offers in another order, some of them twice, are the same offers.
+abbrev pub OrderAndRepeats : Type 0
+OrderAndRepeats = (s t : List Offer) → SameOffers (s ++ t) (t ++ (s ++ t))
 
 -- ---- two draws
 
