@@ -2,3 +2,4 @@
 pub mod Fresh
 pub mod Drawn
 pub mod Theorems
+pub mod Example

@@ -13,7 +13,7 @@ use Rattle.agreement.specs.Theorems.{Became, SameOffersSameBytes, EveryO
 use Rattle.agreement.proofs.Fresh.{fresh-bytes, fresh-openable, opens-within, each-of}
 use Rattle.agreement.proofs.Drawn.{got-drawn, sampled}
 
-became : (overlay : List ℕ) (capacity starting : ℕ) (batches : List ℕ) (s : List Offer) (book : List ℕ)
+pub became : (overlay : List ℕ) (capacity starting : ℕ) (batches : List ℕ) (s : List Offer) (book : List ℕ)
     → Became overlay capacity starting batches s book → book ≡ heard batches (opened overlay capacity starting) s
 became overlay capacity starting batches s book h =
     h .end ∙ ap (λ (b : List ℕ). heard batches b s) (fresh-bytes (h .buffer) overlay capacity starting (h .opened))
