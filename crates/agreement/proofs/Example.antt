@@ -1,5 +1,5 @@
--- The example, computed from the definitions through what histories settle to.
-use mathlib.Core.Path.{_≡_, refl, sym, ap, _∙_}
+-- The example: what the first book answers and holds is computed from the definitions alone, the second ends as the first.
+use mathlib.Core.Path.{_≡_, refl, sym, _∙_}
 use mathlib.Core.List.{List, [], _∷_, _++_, List·Memᴰ, List·Memᴰ·head, List·Memᴰ·tail}
 use Prim.Native.Nat.{ℕ, zero, suc, _<_}
 use native.Mathlib.Omega.{arith}
@@ -13,26 +13,28 @@ use Rattle.postage.specs.Stamp.{slotsOf}
 use Rattle.postage.specs.Batch.{cut, records, fit, below, ordered, wellListed, find}
 use Rattle.postage.specs.Rules.{inBucket, inSlots, isOwner, rules, checked}
 use Rattle.settling.specs.Rank.{higher}
-use Rattle.settling.specs.Book.{State, good, enter, inside, settle}
+use Rattle.settling.specs.Book.{enter, inside, settle, offer}
+use Rattle.settling.specs.Answer.{holder, taken, against, outcome}
 use Rattle.settling.specs.Meaning.{Each}
-use Rattle.settling.specs.History.{enterAll, winners, settled, also, valid}
-use Rattle.reserve.specs.Record.{recordOf, nearOf}
+use Rattle.reserve.specs.Record.{nearOf}
 use Rattle.reserve.specs.Rank.{rankOrder, beats}
-use Rattle.reserve.specs.Shape.{shape}
 use Rattle.reserve.specs.Stamps.{stampAnswer}
-use Rattle.reserve.specs.Histories.{Offer, ByteOffer, passing}
-use Rattle.reserve.specs.Book.{write}
-use Rattle.reserve.specs.Edit.{inState}
-use Rattle.reserve.specs.Open.{freshBook}
-use Rattle.reserve.proofs.Theorems.{histories}
+use Rattle.reserve.specs.Histories.{Offer, ByteOffer, heard, opened}
+use Rattle.reserve.specs.Layout as Layout
+use Rattle.reserve.specs.Layout.{laid}
+use Rattle.reserve.specs.Check.{labelled, sized, levelled, stands, allStand, rises, zeros, wellFormed}
+use Rattle.reserve.specs.Book.{read, write}
+use Rattle.reserve.specs.Offer.{entered, offered}
 use Rattle.agreement.specs.Theorems.{Became, SameOffers}
-use Rattle.agreement.specs.Example.{overlay, batches, address, stampAt, offerBy, these, those, Example}
-use Rattle.agreement.proofs.Fresh.{fresh-openable}
+use Rattle.agreement.specs.Example.{overlay, batches, address, stampAt, offerBy, these, those, answers, lateAlone, Example}
 use Rattle.agreement.proofs.Theorems.{became, same-offers-same-bytes}
 
-settles : settled (shape overlay 16) 0 (valid (passing batches) these) ≡ good 0 (recordOf address (stampAt 100) ∷ [])
-unfolding overlay batches address stampAt offerBy big bigAt bytesOf byteOrder bits bitsOf leadingEqual sharedBits slotsOf cut records fit below ordered wellListed find inBucket inSlots isOwner rules checked higher enter inside settle enterAll winners settled also valid nearOf rankOrder beats stampAnswer passing
-settles = refl
+computed :
+    (answers (opened overlay 16 0) these ≡ 0 ∷ 22 ∷ 19 ∷ [])
+    × (answers (opened overlay 16 0) those ≡ 19 ∷ 0 ∷ 0 ∷ 22 ∷ [])
+    × (heard batches (opened overlay 16 0) these ≡ lateAlone)
+unfolding answers heard overlay batches address stampAt offerBy big bigAt bytesOf byteOrder bits bitsOf leadingEqual sharedBits slotsOf cut records fit below ordered wellListed find inBucket inSlots isOwner rules checked higher enter inside settle offer holder taken against outcome nearOf rankOrder beats stampAnswer Layout.cut laid read write labelled sized levelled stands allStand rises zeros wellFormed entered offered
+computed = (refl, refl, refl)
 
 -- ---- lent as bytes
 
@@ -74,11 +76,14 @@ back o (List·Memᴰ·tail (List·Memᴰ·tail (List·Memᴰ·tail (List·Memᴰ
 same : SameOffers these those
 same = record { there = there; back = back }
 
-ends : (book : List ℕ) → Became overlay 16 0 batches these book → book ≡ write (inState (freshBook overlay 16 0) (good 0 (recordOf address (stampAt 100) ∷ [])))
-ends book h =
-    became overlay 16 0 batches these book h
-    ∙ histories overlay 16 0 batches these (fresh-openable (h .buffer) overlay 16 0 (h .opened) overlay-bytes) these-bytes
-    ∙ ap (λ (c : State (List ℕ)). write (inState (freshBook overlay 16 0) c)) settles
+ends : (book : List ℕ) → Became overlay 16 0 batches these book → book ≡ lateAlone
+ends book h = became overlay 16 0 batches these book h ∙ computed .2
 
+-- the second book by the first: it heard the same offers
 pub example : Example
-example = (same, λ book book′ h k. (same-offers-same-bytes overlay 16 0 batches these those book book′ overlay-bytes these-bytes h k same, ends book h))
+example = (
+  same,
+  computed .0,
+  computed .1,
+  λ book book′ h k. (ends book h, sym (same-offers-same-bytes overlay 16 0 batches these those book book′ overlay-bytes these-bytes h k same) ∙ ends book h),
+)

@@ -1,5 +1,5 @@
--- One neighbourhood's morning: two books hear three offers in different orders, one of them twice, and both end as the book that holds the
--- later stamp alone.
+-- Two books hear three offers in different orders, one of them twice. They answer differently on the way, and both end as the book that
+-- holds the later stamp alone.
 use mathlib.Core.Path.{_≡_}
 use mathlib.Core.List.{List, [], _∷_, _++_}
 use Prim.Native.Nat.{ℕ}
@@ -9,7 +9,7 @@ use Rattle.reserve.specs.Record.{recordOf}
 use Rattle.reserve.specs.Book.{write}
 use Rattle.reserve.specs.Edit.{inState}
 use Rattle.reserve.specs.Open.{freshBook}
-use Rattle.reserve.specs.Histories.{Offer}
+use Rattle.reserve.specs.Histories.{Offer, after, answer, opened}
 use Rattle.agreement.specs.Theorems.{Became, SameOffers}
 
 unfoldable pub overlay : List ℕ
@@ -45,8 +45,17 @@ these = late ∷ early ∷ stranger ∷ []
 abbrev pub those : List Offer
 those = stranger ∷ early ∷ late ∷ early ∷ []
 
+-- the numbers handed back, one after another
+unfoldable pub answers : List ℕ → List Offer → List ℕ
+answers book [] = []
+answers book (o ∷ s) = answer batches book o ∷ answers (after batches book o) s
+
+abbrev pub lateAlone : List ℕ
+lateAlone = write (inState (freshBook overlay 16 0) (good 0 (recordOf address (stampAt 100) ∷ [])))
+
 abbrev pub Example : Type 0
 Example =
     SameOffers these those
-    × ((book book′ : List ℕ) → Became overlay 16 0 batches these book → Became overlay 16 0 batches those book′
-    → (book ≡ book′) × (book ≡ write (inState (freshBook overlay 16 0) (good 0 (recordOf address (stampAt 100) ∷ [])))))
+    × (answers (opened overlay 16 0) these ≡ 0 ∷ 22 ∷ 19 ∷ [])
+    × (answers (opened overlay 16 0) those ≡ 19 ∷ 0 ∷ 0 ∷ 22 ∷ [])
+    × ((book book′ : List ℕ) → Became overlay 16 0 batches these book → Became overlay 16 0 batches those book′ → (book ≡ lateAlone) × (book′ ≡ lateAlone))
