@@ -40,6 +40,13 @@ typedef struct RkfPart {
     uint64_t length;
 } RkfPart;
 
+/* The answer of a draw, the place from 0 of the record that it is about (else 0), and the commitment. */
+typedef struct RkfDrawn {
+    uint32_t answer;
+    uint32_t place;
+    uint8_t commitment[32];
+} RkfDrawn;
+
 /* The Keccak-256 digest of a message of any length, with answer 0. */
 RkfDigested rkf_keccak256(const uint8_t *message, size_t length);
 
@@ -85,6 +92,33 @@ RkfDigested rkf_stamp_digest(const uint8_t *address, size_t address_length, cons
  * account is not the batch owner. */
 uint32_t rkf_check_stamp(const uint8_t *batches, size_t batches_length, const uint8_t *address, size_t address_length,
                          const uint8_t *stamp, size_t stamp_length, const uint8_t *account, size_t account_length);
+
+/* Writes a fresh book over all of the lent 48 + 145 * capacity bytes. Refusals, which write nothing: 27 capacity not 16 to 65,536
+ * or starting depth above 16, 10 overlay not 32 bytes or book of another length. */
+uint32_t rkf_open(uint8_t *book, size_t book_length, const uint8_t *overlay, size_t overlay_length, uint64_t capacity,
+                  uint64_t starting_depth);
+
+/* 0 the book is well formed, 13 it is not; any bytes are taken. */
+uint32_t rkf_check_book(const uint8_t *book, size_t length);
+
+/* Which of two 145-byte records of one slot ranks higher: length 145, and start 0 for the first (also if they are equal) or 1 for
+ * the second. For other lengths or two slots start and length are 0. */
+RkfPart rkf_higher(const uint8_t *first, size_t first_length, const uint8_t *second, size_t second_length);
+
+/* Offers a chunk's address, with its stamp and the account that the host recovered, to the book: 0 kept, 2 the depth rose and the
+ * offer was dropped, 3 the book became overfull. Refusals, which write nothing: 13 book not well formed, 14 already overfull, 15
+ * and 10 and 16 to 19 as `rkf_check_stamp`, 20 shared bits below depth, 21 this very record is held, 22 the slot is held by a
+ * higher rank. */
+uint32_t rkf_offer(uint8_t *book, size_t book_length, const uint8_t *batches, size_t batches_length, const uint8_t *address,
+                   size_t address_length, const uint8_t *stamp, size_t stamp_length, const uint8_t *account,
+                   size_t account_length);
+
+/* Draws from a book, its chunks on the shelf in record order (span, length in 2 bytes, data) and a 32-byte anchor: writes the
+ * sixteen smallest pairs to 1,024 lent bytes and hands back the commitment to them. Refusals, which write nothing: 13 book not well
+ * formed, 14 overfull, 10 anchor or sample of another length; with the record's place 23 shelf ends inside or before a chunk, 12
+ * data above 4,096 bytes, 24 chunk does not hash to its record; 25 bytes left after the last chunk, 26 fewer than sixteen pairs. */
+RkfDrawn rkf_draw(const uint8_t *book, size_t book_length, const uint8_t *shelf, size_t shelf_length, const uint8_t *anchor,
+                  size_t anchor_length, uint8_t *sample, size_t sample_length);
 
 #ifdef __cplusplus
 }

@@ -26,6 +26,105 @@ static void say(const char *what, int holds) {
     }
 }
 
+enum { CAPACITY = 16, BOOK = 48 + 145 * CAPACITY, CELL = 11, SHELF = CELL * CAPACITY, SAMPLE = 1024 };
+
+/* A batch of depth 17, of the account of twenty 0x22. */
+static uint8_t batch[53], owner[20];
+
+static uint8_t book[BOOK];
+
+static void stamp_of(uint8_t stamp[113], const uint8_t address[32], uint8_t time) {
+    memset(stamp, 0, 113);
+    memcpy(stamp, batch, 32);
+    memcpy(stamp + 34, address, 2);
+    stamp[47] = time;
+}
+
+static uint32_t offered(const uint8_t address[32], uint8_t time, size_t account_length) {
+    uint8_t stamp[113];
+    stamp_of(stamp, address, time);
+    return rkf_offer(book, BOOK, batch, 53, address, 32, stamp, 113, owner, account_length);
+}
+
+/* An overlay and an address of zeros: every address is inside depth 0. */
+static void books(void) {
+    uint8_t zeros[32], before[BOOK];
+    uint8_t first[145], second[145];
+    RkfPart higher;
+
+    memset(zeros, 0, sizeof zeros);
+    memset(batch, 0x11, 32);
+    memset(batch + 32, 0x22, 20);
+    batch[52] = 17;
+    memset(owner, 0x22, sizeof owner);
+    memset(book, 0xee, BOOK);
+    memcpy(before, book, BOOK);
+    say("a capacity of 15", rkf_open(book, BOOK, zeros, 32, 15, 0) == 27 && memcmp(book, before, BOOK) == 0);
+    say("a book opened", rkf_open(book, BOOK, zeros, 32, CAPACITY, 0) == 0);
+    say("it is well formed", rkf_check_book(book, BOOK) == 0);
+    say("a byte short it is not", rkf_check_book(book, BOOK - 1) == 13);
+
+    say("an offer kept", offered(zeros, 5, 20) == 0 && book[47] == 1 && rkf_check_book(book, BOOK) == 0);
+    memcpy(before, book, BOOK);
+    say("that very record", offered(zeros, 5, 20) == 21 && memcmp(book, before, BOOK) == 0);
+    say("an account of 19 bytes", offered(zeros, 6, 19) == 10 && memcmp(book, before, BOOK) == 0);
+    memcpy(first, book + 48, 145);
+    say("a later time", offered(zeros, 6, 20) == 0 && memcmp(book, before, 48) == 0 && memcmp(book, before, BOOK) != 0);
+    memcpy(second, book + 48, 145);
+
+    higher = rkf_higher(first, 145, second, 145);
+    say("the second record ranks higher", higher.start == 1 && higher.length == 145);
+    higher = rkf_higher(second, 145, first, 145);
+    say("the first record ranks higher", higher.start == 0 && higher.length == 145);
+    higher = rkf_higher(first, 145, second, 144);
+    say("a record of 144 bytes", higher.start == 0 && higher.length == 0);
+}
+
+/* Sixteen chunks of one byte, filed, and laid out in the order of their records. */
+static void stock(uint8_t shelf[SHELF]) {
+    static const uint8_t span[8] = {1, 0, 0, 0, 0, 0, 0, 0};
+    RkfDigested address[CAPACITY];
+    uint8_t zeros[32], data, chunk, place;
+
+    memset(zeros, 0, sizeof zeros);
+    rkf_open(book, BOOK, zeros, 32, CAPACITY, 0);
+    for (data = 0; data < CAPACITY; data++) {
+        address[data] = rkf_address(span, 8, &data, 1);
+        say("a chunk filed", offered(address[data].digest, 1, 20) == 0);
+    }
+    memset(shelf, 0, SHELF);
+    for (place = 0; place < CAPACITY; place++) {
+        for (chunk = 0; chunk < CAPACITY; chunk++) {
+            if (memcmp(address[chunk].digest, book + 48 + 145 * place + 48, 32) != 0) continue;
+            memcpy(shelf + CELL * place, span, 8);
+            shelf[CELL * place + 9] = 1;
+            shelf[CELL * place + 10] = chunk;
+        }
+    }
+}
+
+static void draws(void) {
+    static const uint8_t span[8] = {0, 4, 0, 0, 0, 0, 0, 0};
+    uint8_t anchor[32], shelf[SHELF], sample[SAMPLE], before[SAMPLE], zeros[32];
+    RkfDrawn drawn, refused;
+
+    memset(anchor, 3, sizeof anchor);
+    memset(zeros, 0, sizeof zeros);
+    memset(sample, 0xee, SAMPLE);
+    memcpy(before, sample, SAMPLE);
+    stock(shelf);
+
+    shelf[SHELF - 1] ^= 0x80;
+    refused = rkf_draw(book, BOOK, shelf, SHELF, anchor, 32, sample, SAMPLE);
+    say("a chunk that is not its record's", refused.answer == 24 && refused.place == 15);
+    say("that draw hands back zeros and writes nothing",
+        memcmp(refused.commitment, zeros, 32) == 0 && memcmp(sample, before, SAMPLE) == 0);
+    shelf[SHELF - 1] ^= 0x80;
+    drawn = rkf_draw(book, BOOK, shelf, SHELF, anchor, 32, sample, SAMPLE);
+    say("a draw", drawn.answer == 0 && drawn.place == 0);
+    expect("the commitment is the sample's address", rkf_address(span, 8, sample, SAMPLE), drawn.commitment);
+}
+
 int main(void) {
     uint8_t message[300];
     RkfDigested whole, start;
@@ -65,5 +164,7 @@ int main(void) {
     say("the last segment", rkf_segment_count(message, sizeof message) == 10 && part.start == 288 && part.length == 12);
     near = rkf_nearness(message, 32, message, 32);
     say("nearness to oneself", near.answer == 0 && near.number == 256);
+    books();
+    draws();
     return failures;
 }

@@ -12,12 +12,19 @@ use Rattle.chunk.specs.Proof.{proofOf}
 use Rattle.nearness.specs.Near.{nearnessOf}
 use Rattle.postage.specs.Digest.{stampDigest}
 use Rattle.postage.specs.Rules.{stampNumber, checked as stampChecked}
+use Rattle.reserve.specs.Open.{openAnswer, openBytes, openNumber}
+use Rattle.reserve.specs.Check.{checked as bookChecked, bookNumber}
+use Rattle.reserve.specs.Choice.{choice}
+use Rattle.reserve.specs.Offer.{Ended, offered}
+use Rattle.draw.specs.Draw.{drawn, sampleAfter}
 use Rattle.ramekinfold.specs.declared.hashing.Digested.{Digested}
 use Rattle.ramekinfold.specs.declared.chunks.Part.{Part}
 use Rattle.ramekinfold.specs.declared.places.Numbered.{Numbered}
+use Rattle.ramekinfold.specs.declared.draws.Drawn.{Drawn}
 use Rattle.ramekinfold.specs.Digested.{digested, ofAddressed, ofStampDigested}
-use Rattle.ramekinfold.specs.Part.{part}
+use Rattle.ramekinfold.specs.Part.{part, ofChoice}
 use Rattle.ramekinfold.specs.Numbered.{ofNear}
+use Rattle.ramekinfold.specs.Drawn.{ofDrawn}
 
 -- ---- hashing
 
@@ -71,3 +78,31 @@ rkf-stamp-digest-determined address stamp r s p q = p ∙ sym q
 pub rkf-check-stamp-determined : (batches address stamp account : List ℕ) (r s : ℕ)
     → r ≡ stampNumber (stampChecked batches address stamp account) → s ≡ stampNumber (stampChecked batches address stamp account) → r ≡ s
 rkf-check-stamp-determined batches address stamp account r s p q = p ∙ sym q
+
+-- ---- books, and a draw from one: the answer, and the lent bytes afterwards where any may be written
+
+pub rkf-open-determined : (book overlay : List ℕ) (capacity starting : ℕ) (r s : ℕ) (after again : List ℕ)
+    → (r ≡ openNumber (openAnswer book overlay capacity starting)) × (after ≡ openBytes book overlay capacity starting)
+    → (s ≡ openNumber (openAnswer book overlay capacity starting)) × (again ≡ openBytes book overlay capacity starting)
+    → (r ≡ s) × (after ≡ again)
+rkf-open-determined book overlay capacity starting r s after again p q = (p .0 ∙ sym (q .0), p .1 ∙ sym (q .1))
+
+pub rkf-check-book-determined : (book : List ℕ) (r s : ℕ) → r ≡ bookNumber (bookChecked book) → s ≡ bookNumber (bookChecked book) → r ≡ s
+rkf-check-book-determined book r s p q = p ∙ sym q
+
+pub rkf-higher-determined : (first second : List ℕ) (r s : Part) → r ≡ ofChoice (choice first second) → s ≡ ofChoice (choice first second) → r ≡ s
+rkf-higher-determined first second r s p q = p ∙ sym q
+
+module _ (book batches address stamp account : List ℕ) where
+  abbrev ended : Ended
+  ended = offered book batches address stamp account
+
+  pub rkf-offer-determined : (r s : ℕ) (after again : List ℕ)
+      → (r ≡ ended .number) × (after ≡ ended .bytes) → (s ≡ ended .number) × (again ≡ ended .bytes) → (r ≡ s) × (after ≡ again)
+  rkf-offer-determined r s after again p q = (p .0 ∙ sym (q .0), p .1 ∙ sym (q .1))
+
+pub rkf-draw-determined : (book shelf anchor sample : List ℕ) (r s : Drawn) (after again : List ℕ)
+    → (r ≡ ofDrawn (drawn book shelf anchor sample)) × (after ≡ sampleAfter book shelf anchor sample)
+    → (s ≡ ofDrawn (drawn book shelf anchor sample)) × (again ≡ sampleAfter book shelf anchor sample)
+    → (r ≡ s) × (after ≡ again)
+rkf-draw-determined book shelf anchor sample r s after again p q = (p .0 ∙ sym (q .0), p .1 ∙ sym (q .1))

@@ -2,4 +2,6 @@
 pub mod Digested
 pub mod Part
 pub mod Numbered
+pub mod Drawn
 pub mod Determined
+pub mod Refused

@@ -10,7 +10,8 @@ use Rattle.reserve.specs.declared.check.BookAnswer.{BookAnswer}
 use Rattle.reserve.specs.declared.open.OpenAnswer.{OpenAnswer}
 use Rattle.reserve.specs.declared.open.OpenAnswer.the-variants.{Done, OutOfRange, WrongLength}
 use Rattle.reserve.specs.declared.offer.OfferAnswer.{OfferAnswer}
-use Rattle.reserve.specs.Choice.{higherOf, placeOf}
+use Rattle.reserve.specs.declared.rank.Choice.{Choice}
+use Rattle.reserve.specs.Choice.{choice, higherOf, placeOf}
 use Rattle.reserve.specs.Answer.{offerNumber, one-number-one-answer}
 use Rattle.reserve.specs.Offer.{Ended, offered}
 use Rattle.reserve.specs.Layout.{stateIn, startingIn, depthIn}
@@ -60,6 +61,10 @@ module _ (s overlay : List ℕ) (capacity starting : ℕ) where
       go Done h = absurd (omega arith)
       go OutOfRange h = refl
       go WrongLength h = refl
+
+-- which of two records ranks higher
+pub choose-determined : (a b : List ℕ) (r r′ : Choice) → r ≡ choice a b → r′ ≡ choice a b → r ≡ r′
+choose-determined a b r r′ p q = p ∙ sym q
 
 -- the higher of two records: its bytes, and whose they are
 pub higher-determined : {P : Type 0} (a b r r′ : List ℕ) (first second p p′ : P)

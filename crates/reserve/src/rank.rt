@@ -28,8 +28,8 @@ pub fn higher<'a>(first: &'a [u8], second: &'a [u8]) -> &'a [u8]
     }
 }
 
-// The verdict by itself, since a part is handed back in one place only.
-fn choose(first: &[u8], second: &[u8]) -> Choice
+// The verdict by itself, for a host in another language, which holds both records and asks only which one.
+pub fn choose(first: &[u8], second: &[u8]) -> Choice
     ensures { λ r. ⌜ r ≡ choice (now (first .entry)) (now (second .entry)) ⌝ }
 {
     if first.len() != 145 {

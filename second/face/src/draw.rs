@@ -21,35 +21,6 @@ impl From<Result<[u8; 32], Refused>> for Drawn {
     }
 }
 
-mod raw {
-    use super::Drawn;
-
-    extern "C" {
-        pub fn rkf_draw(
-            book: *const u8,
-            book_length: usize,
-            shelf: *const u8,
-            shelf_length: usize,
-            anchor: *const u8,
-            anchor_length: usize,
-            sample: *mut u8,
-            sample_length: usize,
-        ) -> Drawn;
-    }
-}
-
-#[inline]
-pub fn draw(book: &[u8], shelf: &[u8], anchor: &[u8], sample: &mut [u8]) -> Drawn {
-    unsafe {
-        raw::rkf_draw(
-            book.as_ptr(),
-            book.len(),
-            shelf.as_ptr(),
-            shelf.len(),
-            anchor.as_ptr(),
-            anchor.len(),
-            sample.as_mut_ptr(),
-            sample.len(),
-        )
-    }
+calls! {
+    rkf_draw as draw(book: &[u8], shelf: &[u8], anchor: &[u8], sample: &mut [u8]) -> Drawn;
 }

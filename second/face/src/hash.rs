@@ -10,33 +10,9 @@ pub struct Sponge {
     pub place: usize,
 }
 
-mod raw {
-    use super::{Digested, Sponge};
-
-    extern "C" {
-        pub fn rkf_keccak256(message: *const u8, message_length: usize) -> Digested;
-        pub fn rkf_sponge() -> Sponge;
-        pub fn rkf_absorb(sponge: Sponge, part: *const u8, part_length: usize) -> Sponge;
-        pub fn rkf_finish(sponge: Sponge) -> Digested;
-    }
-}
-
-#[inline]
-pub fn keccak256(message: &[u8]) -> Digested {
-    unsafe { raw::rkf_keccak256(message.as_ptr(), message.len()) }
-}
-
-#[inline]
-pub fn sponge() -> Sponge {
-    unsafe { raw::rkf_sponge() }
-}
-
-#[inline]
-pub fn absorb(sponge: Sponge, part: &[u8]) -> Sponge {
-    unsafe { raw::rkf_absorb(sponge, part.as_ptr(), part.len()) }
-}
-
-#[inline]
-pub fn finish(sponge: Sponge) -> Digested {
-    unsafe { raw::rkf_finish(sponge) }
+calls! {
+    rkf_keccak256 as keccak256(message: &[u8]) -> Digested;
+    rkf_sponge as sponge() -> Sponge;
+    rkf_absorb as absorb(sponge: Sponge, part: &[u8]) -> Sponge;
+    rkf_finish as finish(sponge: Sponge) -> Digested;
 }

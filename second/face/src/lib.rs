@@ -1,6 +1,7 @@
 //! The C face of the proved library, as a Rust caller sees it: its structs, and a safe function for each of its own.
-//!
-//! Every wrapper is `#[inline]`, so that a program links only those that it calls.
+
+#[macro_use]
+mod calls;
 
 pub mod bench;
 pub mod book;

@@ -18,16 +18,6 @@ impl From<Result<u32, u32>> for Numbered {
     }
 }
 
-mod raw {
-    use super::Numbered;
-
-    extern "C" {
-        pub fn rkf_nearness(first: *const u8, first_length: usize, second: *const u8, second_length: usize)
-            -> Numbered;
-    }
-}
-
-#[inline]
-pub fn nearness(first: &[u8], second: &[u8]) -> Numbered {
-    unsafe { raw::rkf_nearness(first.as_ptr(), first.len(), second.as_ptr(), second.len()) }
+calls! {
+    rkf_nearness as nearness(first: &[u8], second: &[u8]) -> Numbered;
 }

@@ -64,21 +64,53 @@ fn refused(answer: u32, place: usize) -> Drawn {
     Drawn { answer, place: place as u32, commitment: [0; 32] }
 }
 
+/// Each kind of damage to one cell, and the answer that it gives.
+fn damages(chance: &mut Chance, stock: &Stock, place: usize) -> Vec<(u32, Vec<u8>)> {
+    let (shelf, start, length) = (stock.shelf(), stock.start(place), stock.cells[place].len());
+    let cut = |kept: usize| shelf[..start + kept].to_vec();
+    let changed = |at: usize, change: &dyn Fn(&mut [u8])| {
+        let mut shelf = shelf.clone();
+        change(&mut shelf[start + at..]);
+        shelf
+    };
+    let (long, bit) = (4_097 + chance.below(61_439) as u16, 1 << chance.below(8));
+    let (span, data) = random_chunk(chance);
+    let mut damages = vec![
+        (23, cut(chance.below(10))),
+        (12, changed(8, &|rest| rest[..2].copy_from_slice(&long.to_be_bytes()))),
+        (24, changed(chance.below(8), &|rest| rest[0] ^= bit)),
+        (24, [&shelf[..start], &made::cell(&span, &data), &shelf[start + length..]].concat()),
+    ];
+    if length > 10 {
+        damages.push((23, cut(10 + chance.below(length - 10))));
+        damages.push((24, changed(10 + chance.below(length - 10), &|rest| rest[0] ^= bit)));
+    }
+    damages
+}
+
 #[test]
-fn three_hundred_books() {
+fn three_hundred_books_whole_and_damaged() {
     let mut chance = Chance::new(300);
     for case in 0..300 {
         let (chunks, twice) = [(15, 0), (15, 5), (16, 0), (16, 3), (17, 0), (17, 17), (40, 0), (40, 10)][case % 8];
         let stock = Stock::random(&mut chance, chunks, twice);
         let anchor: [u8; 32] = chance.array();
-        let drawn = drawn(&stock.book, &stock.shelf(), &anchor, SAMPLE);
-        assert_eq!(drawn.answer, if chunks < 16 { 26 } else { 0 }, "{chunks} chunks");
-        assert_eq!(drawn.place, 0);
+        let draw = |shelf: &[u8]| drawn(&stock.book, shelf, &anchor, SAMPLE);
+        let whole = draw(&stock.shelf());
+        assert_eq!((whole.answer, whole.place), (if chunks < 16 { 26 } else { 0 }, 0), "{chunks} chunks");
+        let last = stock.cells.len() - 1;
+        for place in [0, last / 2, last] {
+            for (answer, shelf) in damages(&mut chance, &stock, place) {
+                assert_eq!(draw(&shelf), refused(answer, place), "{chunks} chunks");
+            }
+        }
+        let more = 1 + chance.below(5_000);
+        assert_eq!(draw(&[stock.shelf(), chance.bytes(more)].concat()), refused(25, 0));
     }
 }
 
 #[test]
-fn each_damage_at_the_first_a_middle_and_the_last_cell() {
+fn the_edges_of_each_damage() {
     let mut chance = Chance::new(301);
     for _ in 0..10 {
         let stock = Stock::random(&mut chance, 18, 2);

@@ -1,6 +1,7 @@
 //! Damaged books, over the C face: every kind of damage gives 13 everywhere, and changes nothing.
 
 use face::book::{check_book, offer};
+use face::draw::{draw, Drawn};
 use face::lent::unchanged;
 use second::chance::Chance;
 use second::{book, made};
@@ -40,14 +41,18 @@ impl Good {
         good
     }
 
-    /// Both programs' verdict on a book; a book that isn't well formed takes no offer and keeps its bytes.
+    /// Both programs' verdict on a book; one that isn't well formed takes no offer and gives no draw, and keeps its bytes.
     fn check(&self, book: &[u8]) -> u32 {
         let answer = unchanged(&[book], || check_book(book));
         assert_eq!(answer, book::check_book(book));
         if answer == 13 {
-            let mut lent = book.to_vec();
-            assert_eq!(offer(&mut lent, &self.batches, &self.address, &self.stamp, &OWNER), 13);
-            assert!(lent == book, "a refused book was written");
+            let Good { batches, address, stamp, .. } = self;
+            let (mut lent, mut sample) = (book.to_vec(), [0x5c; 1_024]);
+            let offered = unchanged(&[batches, address, stamp], || offer(&mut lent, batches, address, stamp, &OWNER));
+            let drawn = unchanged(&[book], || draw(book, &[], &[3; 32], &mut sample));
+            assert_eq!(offered, 13);
+            assert_eq!(drawn, Drawn { answer: 13, place: 0, commitment: [0; 32] });
+            assert!(lent == book && sample == [0x5c; 1_024], "a refusal wrote a lent byte");
         }
         answer
     }
@@ -96,7 +101,7 @@ fn each_header_field() {
 #[test]
 fn each_record_field() {
     let good = Good::new();
-    for place in [0, 4, 9] {
+    for place in 0..10 {
         let record = at(place);
         for byte in 32..36 {
             good.spoiled("bucket", |book| book[record + byte] ^= 1);
@@ -145,10 +150,27 @@ fn each_trailing_byte_and_each_length() {
 #[test]
 fn each_bit_of_a_book() {
     let good = Good::new();
-    for bit in 0..8 * good.book.len() {
-        let mut book = good.book.clone();
-        book[bit / 8] ^= 0x80 >> (bit % 8);
-        good.check(&book);
+    for place in 0..good.book.len() {
+        for bit in 0..8 {
+            let mut book = good.book.clone();
+            book[place] ^= 1 << bit;
+            let answer = good.check(&book);
+            if let Some(expected) = flipped(place) {
+                assert_eq!(answer, expected, "bit {bit} of byte {place}");
+            }
+        }
+    }
+}
+
+/// What a flipped bit gives, where its field alone decides that.
+fn flipped(place: usize) -> Option<u32> {
+    let field = place.checked_sub(at(0)).map(|place| place % book::RECORD);
+    match field {
+        None => [0..6, 40..48].iter().any(|header| header.contains(&place)).then_some(13),
+        _ if place >= at(10) => Some(13),
+        Some(32..37 | 48..50) => Some(13),
+        Some(40..48 | 50..) => Some(0),
+        _ => None,
     }
 }
 
