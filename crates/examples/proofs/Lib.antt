@@ -1,0 +1,2 @@
+-- The table, proved. A reader opens Theorems.
+pub mod Theorems

@@ -1,0 +1,2 @@
+-- That the two verdicts are two.
+pub mod Apart
