@@ -6,8 +6,7 @@ use Prim.Native.Nat.{ℕ}
 use lib.ListN.{replicate}
 use Rattle.settling.specs.Book.{good}
 use Rattle.reserve.specs.Record.{recordOf}
-use Rattle.reserve.specs.Book.{write}
-use Rattle.reserve.specs.Edit.{inState}
+use Rattle.reserve.specs.Book.{write, inState}
 use Rattle.reserve.specs.Open.{freshBook}
 use Rattle.reserve.specs.Histories.{Offer, after, answer, opened}
 use Rattle.agreement.specs.Theorems.{Became, SameOffers}
