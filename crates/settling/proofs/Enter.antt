@@ -34,10 +34,6 @@ module _ {A : Type 0} (B : Shape A) where
       let n : slot a ≡ slot r → ⊥ = λ e. omega arith in
       rw (le-ltb (slot a) (slot r) k, ne-eqb (slot a) (slot r) n)
 
-  pub enterAll-nil : (l : List A) → enterAll B l [] ≡ l
-  unfolding enterAll
-  enterAll-nil l = refl
-
   pub enterAll-cons : (l : List A) (a : A) (s : List A) → enterAll B l (a ∷ s) ≡ enterAll B (enter B a l) s
   unfolding enterAll
   enterAll-cons l a s = refl

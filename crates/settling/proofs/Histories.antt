@@ -8,11 +8,11 @@ use mathlib.Core.List.{List, [], _∷_, List·Memᴰ, List·Memᴰ·head, List·
 use Rattle.settling.specs.Rank.{Shape}
 use Rattle.settling.specs.Book.{State, overfull, settle, offer}
 use Rattle.settling.specs.History.{fresh, run, winners, settled, hand, hear, also, valid}
-use Rattle.settling.specs.Meaning.{Each, Every, Sound}
+use Rattle.settling.specs.Meaning.{Each, Sound}
 use Rattle.settling.proofs.Enter.{enterAll-same}
 use Rattle.settling.proofs.Inside.{inside-nil}
 use Rattle.settling.proofs.Settle.{settle-fits, run-settle, offer-overfull}
-use Rattle.settling.proofs.Sound.{run-sound, every-run}
+use Rattle.settling.proofs.Sound.{run-sound}
 
 module _ {A : Type 0} (B : Shape A) where
   open Shape B using (top)
@@ -95,6 +95,3 @@ module _ {A : Type 0} (B : Shape A) {O : Type 0} (taking : O → Option A) where
 
   pub hear-sound : (b : State A) (s : List O) → Sound B b → Sound B (hear B taking b s)
   hear-sound b s w = rw (hear-run b s) (run-sound B b (valid taking s) w)
-
-  pub every-hear : (P : A → Type 0) (b : State A) (s : List O) → ((o : O) (a : A) → taking o ≡ some a → P a) → Every P b → Every P (hear B taking b s)
-  every-hear P b s f o = rw (hear-run b s) (every-run B P b (valid taking s) (each-valid taking P s f) o)

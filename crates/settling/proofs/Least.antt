@@ -1,17 +1,17 @@
--- The least depth by counters is the depth that settling finds. Code may walk the counters from either end.
+-- The least depth by counters is the least at which the records fit, also where code walks the counters from the greatest depth down.
 use Prim.Native.Nat.{ℕ, zero, suc, _+_, _-_, _≤_, _<_}
 use native.Mathlib.Omega.{arith}
 use native.Mathlib.Nat.{le-refl}
-use mathlib.Core.Path.{_≡_, refl, sym, _∙_, ap}
-use mathlib.Core.List.{List, [], _∷_}
+use mathlib.Core.Path.{_≡_, sym, _∙_, ap}
+use mathlib.Core.List.{List, _∷_}
 use lib.ListN.{length, drop, getD, drop-of-length-le}
 use lib.Seq.{drop-cons, drop-length}
 use borrow.Author.Tests.{le-leb, lt-leb}
 use Rattle.settling.specs.Rank.{Shape}
-use Rattle.settling.specs.Book.{overfull, good, inside, settle}
+use Rattle.settling.specs.Book.{inside}
 use Rattle.settling.specs.Tally.{total, least}
 use Rattle.settling.proofs.Cases.{from-next, Limit, within, beyond, limit}
-use Rattle.settling.proofs.Settle.{Full, settle-at, settle-over}
+use Rattle.settling.proofs.Settle.{Full}
 use Rattle.settling.proofs.Counters.{Counters, total-cons, counters-total}
 
 -- over a table of counters alone
@@ -108,19 +108,3 @@ module _ {A : Type 0} (B : Shape A) where
       go : Counted s (suc c) (least capacity (suc c) (drop (suc c) t)) → Limit (length (inside B c s)) capacity → Counted s c (least capacity c (drop c t))
       go ih (within h) = rw (least-here capacity t c inlist (omega (arith, many, h))) (fits-at (omega arith) (omega (arith, e)) h (λ x k m. absurd (omega arith)))
       go ih (beyond h) = rw (least-next capacity t c inlist (omega (arith, many, h))) (later h ih)
-
-  -- the depth found by counters is settling's
-  pub least-settles : (n c : ℕ) (t : List ℕ) (s : List A) → Counters B t s → n + c ≡ suc top → least capacity c (drop c t) ≤ top
-      → settle B n c s ≡ good (least capacity c (drop c t)) (inside B (least capacity c (drop c t)) s)
-  least-settles n c t s w e h = go (least capacity c (drop c t)) h (counted n c t s w e)
-    where
-      go : (x : ℕ) → x ≤ top → Counted s c x → settle B n c s ≡ good x (inside B x s)
-      go x h (fits-at p q f u) = settle-at B n c x s p (omega arith) u f
-      go x h (fits-nowhere p u) = absurd (omega arith)
-
-  pub least-bursts : (n c : ℕ) (t : List ℕ) (s : List A) → Counters B t s → n + c ≡ suc top → top < least capacity c (drop c t) → settle B n c s ≡ overfull
-  least-bursts n c t s w e h = go (least capacity c (drop c t)) h (counted n c t s w e)
-    where
-      go : (x : ℕ) → top < x → Counted s c x → settle B n c s ≡ overfull
-      go x h (fits-at p q f u) = absurd (omega arith)
-      go x h (fits-nowhere p u) = settle-over B n c s (λ y a b. u y a (omega arith))

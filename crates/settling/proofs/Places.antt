@@ -5,7 +5,7 @@ use native.Mathlib.Numerals.{add-one}
 use mathlib.Core.Path.{_≡_, refl, sym, _∙_, ap}
 use mathlib.Core.List.{List, [], _∷_, _++_, List·Memᴰ, List·Memᴰ·head, List·Memᴰ·tail, append-nil}
 use mathlib.Core.Option.{some}
-use lib.ListN.{length, take, drop, getD, set, length-append, take-append-drop}
+use lib.ListN.{length, take, drop, getD, set, take-append-drop}
 use lib.Seq.{take-suc, take-append-seam, drop-append-seam}
 use Rattle.settling.specs.Rank.{Shape, higher}
 use Rattle.settling.specs.Book.{enter, inside}
@@ -134,11 +134,3 @@ module _ {A : Type 0} (B : Shape A) (d : ℕ) (l : List A) (i : ℕ) where
 
   pub kept-after : drop (length (inside B d (take i l))) (inside B d l) ≡ inside B d (drop i l)
   kept-after = rw inside-split (drop-append-seam (inside B d (take i l)) (inside B d (drop i l)))
-
-  -- how many they are, with a record that stays and with one that goes
-  pub kept-count-in : (a : A) → d ≤ B .near (B .slot a) → length (inside B d (take i l) ++ (a ∷ inside B d (drop i l))) ≡ length (inside B d (a ∷ l))
-  kept-count-in a p =
-      rw (inside-in B d a l p, inside-split, length-append (inside B d (take i l)) (a ∷ inside B d (drop i l)), length-append (inside B d (take i l)) (inside B d (drop i l))) (omega arith)
-
-  pub kept-count-out : (a : A) → B .near (B .slot a) < d → length (inside B d l) ≡ length (inside B d (a ∷ l))
-  kept-count-out a p = rw (inside-out B d a l p)
