@@ -87,6 +87,6 @@ module _ (book shelf anchor sample : List ℕ) where
           let digest : r .digest ≡ addressOf [] sampleSpan (written chosen) =
           ap (λ (a : Addressed). a .digest) (hashed ∙ addressed-done [] sampleSpan after refl (omega arith)) ∙ ap (addressOf [] sampleSpan) stands in
           let answered = counted false (le-ltb (length chosen) 16 (omega arith)) in (
-            ap (λ (c : List ℕ). record { answer = Drawn; commitment = c }) digest ∙ sym (ap result-of answered),
+            _∙_ {b = result-of Drawn} (ap (λ (c : List ℕ). record { answer = Drawn; commitment = c }) digest) (sym (ap result-of answered)),
             stands ∙ sym (ap (λ (x : DrawAnswer). onlyDrawn x (written chosen) sample) answered),
           )

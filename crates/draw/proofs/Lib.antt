@@ -13,3 +13,4 @@ pub mod Walking
 pub mod Cells
 pub mod Collecting
 pub mod Handing
+pub mod Sheet

@@ -70,7 +70,7 @@ returns-2 c =
     let l = w .before .before .before .loop in
     let a = w .before .before .before .before .before .before .args in
     let stands = told (a .pair .now) (a .best .now) (l .i) (w .compare .result) Same (w .compare .ensures) (c .enum-told2 .given .1) in
-    (omega arith, found-same (a .pair .now) (a .held) (a .best .now) (l .i) (l .inv .1) (omega arith) stands)
+    (omega (arith, pieces-length (a .held) (a .best .now)), found-same (a .pair .now) (a .held) (a .best .now) (l .i) (l .inv .1) (omega arith) stands)
 
 enum-told-3 : tie.Need-enum-told-3 Inv-loop μ-loop
 enum-told-3 c = search needs
