@@ -54,9 +54,10 @@ pub fn compare(job: &str, turns: usize, contenders: &mut [Contender]) -> Vec<f64
     seconds
 }
 
-/// Prints what more work costs Rattle: about as many times the time as it is times the work, where cost is linear.
+/// Prints what more work costs the first two contenders: where cost is linear, as many times the time as the work, and
+/// a little more once it no longer fits in the machine's caches.
 pub fn growth(work: &str, less: &[f64], more: &[f64]) {
-    println!("{work}: {:.2} times the time", more[0] / less[0]);
+    println!("{work}: Rattle {:.2}, second {:.2} times the time", more[0] / less[0], more[1] / less[1]);
 }
 
 /// One run: each contender's quickest turn, in seconds, since what else the machine does only ever adds to it.
