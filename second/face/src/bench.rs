@@ -36,8 +36,9 @@ fn spent() -> Duration {
     Duration::new(time.seconds as u64, time.nanoseconds as u32)
 }
 
-/// Gives each contender so many turns a run; prints the first one's ratio to each of the others, and a turn's time.
-pub fn compare(job: &str, turns: usize, contenders: &mut [Contender]) {
+/// Gives each contender so many turns a run; prints the first one's ratio to each of the others, and hands back what a
+/// turn takes each of them, in seconds.
+pub fn compare(job: &str, turns: usize, contenders: &mut [Contender]) -> Vec<f64> {
     let runs: Vec<Vec<f64>> = (0..RUNS).map(|_| run(turns, contenders)).collect();
     print!("{job}:");
     for other in 1..contenders.len() {
@@ -47,11 +48,16 @@ pub fn compare(job: &str, turns: usize, contenders: &mut [Contender]) {
             print!(" ({} the bar of {BAR})", if ratio <= BAR { "within" } else { "OVER" });
         }
     }
-    let each = contenders.iter().enumerate().map(|(place, (name, _))| {
-        let seconds = median(runs.iter().map(|run| run[place]));
-        format!("{name} {}", human(seconds))
-    });
+    let seconds: Vec<f64> = (0..contenders.len()).map(|place| median(runs.iter().map(|run| run[place]))).collect();
+    let each = contenders.iter().zip(&seconds).map(|((name, _), seconds)| format!("{name} {}", human(*seconds)));
     println!("  [{}]", each.collect::<Vec<String>>().join(", "));
+    seconds
+}
+
+/// Prints what more work costs the first two contenders: where cost is linear, as many times the time as the work, and
+/// a little more once it no longer fits in the machine's caches.
+pub fn growth(work: &str, less: &[f64], more: &[f64]) {
+    println!("{work}: Rattle {:.2}, second {:.2} times the time", more[0] / less[0], more[1] / less[1]);
 }
 
 /// One run: each contender's quickest turn, in seconds, since what else the machine does only ever adds to it.

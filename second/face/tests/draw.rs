@@ -85,6 +85,9 @@ fn damages(chance: &mut Chance, stock: &Stock, place: usize) -> Vec<(u32, Vec<u8
         damages.push((23, cut(10 + chance.below(length - 10))));
         damages.push((24, changed(10 + chance.below(length - 10), &|rest| rest[0] ^= bit)));
     }
+    if length > 10 && stock.cells[place][length - 1] != 0 {
+        damages.push((24, changed(8, &|rest| rest[..2].copy_from_slice(&(length as u16 - 11).to_be_bytes()))));
+    }
     damages
 }
 

@@ -1,6 +1,6 @@
 //! Offers, Rattle against the second program: on a full book of 65,536 records, and filling a book from empty.
 
-use face::bench::{compare, timed};
+use face::bench::{compare, growth, timed};
 use second::book::{open, HEADER, RECORD};
 use second::made;
 
@@ -19,24 +19,27 @@ fn main() {
     let one_short = book(65_536, (0..65_536).filter(|bucket| *bucket != 32_768));
     on_a_copy("a new slot in the middle, 65,535 held", &one_short, offer(32_768, 0, TIME), 0);
     on_a_copy("a record replaced, 65,536 held", &full, offer(32_768, 0, TIME + 1), 0);
-    on_a_copy("refused with 22, 65,536 held", &full, offer(32_768, 0, TIME - 1), 22);
+    let more = on_a_copy("refused with 22, 65,536 held", &full, offer(32_768, 0, TIME - 1), 22);
     on_a_copy("a rise that drops half of 65,536", &full, offer(1_000, 1, TIME), 0);
+    let quarter = book(16_384, 0..16_384);
+    let less = on_a_copy("refused with 22, 16,384 held", &quarter, offer(8_192, 0, TIME - 1), 22);
+    growth("4 times the book", &less, &more);
     let offers: Vec<Offer> = (0..4_096u32).map(|place| offer((place * 2_531 % 4_096 * 16) as u16, 0, TIME)).collect();
-    compare_offers("4,096 slots from empty", 3, &book(4_096, []), &offers, 0);
+    compare_offers("4,096 slots from empty", 4, &book(4_096, []), &offers, 0);
 }
 
 /// One offer, each time on a fresh copy of the book, which is made off the clock.
-fn on_a_copy(job: &str, book: &[u8], offer: Offer, answer: u32) {
-    compare_offers(job, 20, book, &[offer], answer);
+fn on_a_copy(job: &str, book: &[u8], offer: Offer, answer: u32) -> Vec<f64> {
+    compare_offers(job, 30, book, &[offer], answer)
 }
 
-fn compare_offers(job: &str, turns: usize, book: &[u8], offers: &[Offer], answer: u32) {
+fn compare_offers(job: &str, turns: usize, book: &[u8], offers: &[Offer], answer: u32) -> Vec<f64> {
     let (mut ours, mut theirs) = (book.to_vec(), book.to_vec());
     let turn = |call: OfferCall, lent: &mut [u8]| {
         lent.copy_from_slice(book);
         timed(|| offers.iter().for_each(|offer| assert_eq!(file(call, lent, offer), answer)))
     };
-    compare(
+    let seconds = compare(
         job,
         turns,
         &mut [
@@ -45,6 +48,7 @@ fn compare_offers(job: &str, turns: usize, book: &[u8], offers: &[Offer], answer
         ],
     );
     assert!(ours == theirs, "{job}: books differ");
+    seconds
 }
 
 fn file(call: OfferCall, book: &mut [u8], (address, stamp): &Offer) -> u32 {

@@ -1,6 +1,6 @@
-//! The draw, Rattle against the second program: over 1,000 full chunks, and over 100 to see that it grows as they do.
+//! The draw, Rattle against the second program: over 1,000 full chunks, and over 250 to see that it grows as they do.
 
-use face::bench::{compare, timed};
+use face::bench::{compare, growth, timed};
 use second::book::{open, HEADER, RECORD};
 use second::chance::Chance;
 use second::{chunk, made};
@@ -8,21 +8,23 @@ use second::{chunk, made};
 const ID: [u8; 32] = [0x11; 32];
 
 fn main() {
-    for (count, turns) in [(100, 20), (1_000, 4)] {
-        let (book, shelf) = stock(count);
-        let (mut ours, mut theirs) = ([0; 1_024], [0; 1_024]);
-        compare(
-            &format!("a draw over {count} full chunks"),
-            turns,
-            &mut [
-                ("Rattle", &mut || {
-                    timed(|| assert_eq!(face::draw::draw(&book, &shelf, &[3; 32], &mut ours).answer, 0))
-                }),
-                ("second", &mut || timed(|| second::draw::draw(&book, &shelf, &[3; 32], &mut theirs).unwrap())),
-            ],
-        );
-        assert!(ours == theirs, "samples differ");
-    }
+    let (fewer, more) = (draws(250, 16), draws(1_000, 6));
+    growth("4 times the chunks", &fewer, &more);
+}
+
+fn draws(count: usize, turns: usize) -> Vec<f64> {
+    let (book, shelf) = stock(count);
+    let (mut ours, mut theirs) = ([0; 1_024], [0; 1_024]);
+    let seconds = compare(
+        &format!("a draw over {count} full chunks"),
+        turns,
+        &mut [
+            ("Rattle", &mut || timed(|| assert_eq!(face::draw::draw(&book, &shelf, &[3; 32], &mut ours).answer, 0))),
+            ("second", &mut || timed(|| second::draw::draw(&book, &shelf, &[3; 32], &mut theirs).unwrap())),
+        ],
+    );
+    assert!(ours == theirs, "samples differ");
+    seconds
 }
 
 /// A book of so many full chunks, and its shelf.
