@@ -61,3 +61,9 @@ number-then {n} {m} x same = field-then (decimal n) (decimal m) x (ap decimal sa
 -- where a field ends
 pub put-within : (f : List ℕ) (x n : ℕ) {s t : List ℕ} {at b : ℕ} → length f ≤ n → Put s at (f ++ (x ∷ [])) t b → b ≤ at + (n + 1)
 put-within f x n h p = omega (arith, p .next, length-append f (x ∷ []))
+
+-- and that it ends within the buffer
+pub put-inside : {s v t : List ℕ} {at b : ℕ} → at ≤ length s → Put s at v t b → b ≤ length t
+unfolding over
+put-inside {s} {v} {t} {at} {b} h p =
+    omega (arith, p .next, simp (length-append, length-take-le at s h) at (ap length (p .bytes)))

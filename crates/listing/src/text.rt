@@ -17,6 +17,7 @@ ghost use Rattle.listing.specs.Put.{Put};
 // The text for `input`, over the first bytes of `text`; says how many they are. There is room for every text.
 pub fn list(input: &[u8], text: &mut [u8; 65536]) -> usize
     ensures { λ r. ⌜ (r ≡ length (printed (now (input .entry)))) × (now (text .exit) ≡ over (now (text .entry)) 0 (printed (now (input .entry)))) ⌝ }
+    ensures { λ r. ⌜ r ≤ length (now (text .exit)) ⌝ }
 {
     if 65536 < input.len() {
         return put_field(text, 0, b"too large", b'\n');
