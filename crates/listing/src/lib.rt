@@ -1,0 +1,4 @@
+// The listing: a book as text.
+mod field;
+mod line;
+pub mod text;
