@@ -14,8 +14,9 @@ pub mod listing;
 pub mod nearness;
 pub mod postage;
 
-// For tests, benchmarks and vectors.
+// For tests, benchmarks, and the data of the proved programs.
 pub mod chance;
+pub mod day;
 pub mod hex;
 pub mod made;
 pub mod published;

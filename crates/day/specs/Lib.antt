@@ -1,0 +1,2 @@
+-- What the program calls agreeing.
+pub mod Agree

@@ -1,0 +1,91 @@
+// What is said of four draws, and of who agrees.
+use crate::machine::Machine;
+use crate::text::hex;
+use crate::text::number;
+use crate::text::say;
+use crate::verdict::agree;
+use crate::verdict::one_book;
+use crate::verdict::one_hash;
+
+// The anchor, and a line for each machine.
+pub(crate) fn draws(anchor: &[u8], a: Machine, b: Machine, c: Machine, d: Machine) {
+    say(
+        b"The draw: the anchor picks sixteen chunks from each machine's own book, and one hash stands for them\n",
+    );
+    say(b"  anchor      ");
+    hex(anchor);
+    say(b"\n");
+    drawn(b"  machine A   ", a, a);
+    drawn(b"  machine B   ", b, a);
+    drawn(b"  machine C   ", c, a);
+    drawn(b"  machine D   ", d, a);
+    say(b"\n");
+}
+
+// One machine's line, marked where its hash is not the first machine's.
+fn drawn(name: &[u8], m: Machine, first: Machine) {
+    let hash = m.hash;
+    say(name);
+    if m.drawn == 0 {
+        hex(&hash);
+    } else {
+        say(b"no hash: the draw was refused with number ");
+        number(m.drawn as u64, 1);
+    }
+    if !one_hash(first, m) {
+        say(b"   not machine A's");
+    }
+    say(b"\n");
+}
+
+// Whether the four books have one digest.
+pub(crate) fn on_books(a: Machine, b: Machine, c: Machine, d: Machine) {
+    say(b"What was kept and what was refused on the way depends on the order of the offers.\n");
+    if one_book(a, b) && one_book(a, c) && one_book(a, d) {
+        say(b"What the books came to does not: four orders, one digest.\n\n");
+    } else {
+        say(b"And the books came to more than one digest.\n\n");
+    }
+}
+
+// What became of a machine that missed offers; nothing of one that missed none.
+pub(crate) fn on_missed(name: &[u8], m: Machine, first: Machine) {
+    if m.missed == 0 {
+        return;
+    }
+    say(name);
+    say(b" missed ");
+    number(m.missed, 1);
+    if one_book(first, m) {
+        on_same_book(one_hash(first, m));
+    } else {
+        on_other_book(one_hash(first, m));
+    }
+}
+
+// Its book is the first machine's.
+fn on_same_book(same_hash: bool) {
+    if same_hash {
+        say(b" offers: its book and its hash are machine A's all the same.\n");
+    } else {
+        say(b" offers: its book is machine A's, but its hash is not.\n");
+    }
+}
+
+// Its book is not the first machine's.
+fn on_other_book(same_hash: bool) {
+    if same_hash {
+        say(b" offers: its hash is machine A's, but its book is not.\n");
+    } else {
+        say(b" offers: its book and its hash are not machine A's.\n");
+    }
+}
+
+// Agreement is said of four equal hashes alone.
+pub(crate) fn on_all(a: Machine, b: Machine, c: Machine, d: Machine) {
+    if agree(a, b, c, d) {
+        say(b"THE FOUR MACHINES AGREE: all four drew one hash.\n");
+    } else {
+        say(b"THE FOUR MACHINES DO NOT AGREE.\n");
+    }
+}
