@@ -1,2 +1,3 @@
--- The table, proved. A reader opens Theorems.
+-- The tables, proved. A reader opens Theorems.
 pub mod Theorems
+pub mod Books

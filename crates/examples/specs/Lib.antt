@@ -1,2 +1,3 @@
--- The table that a reader looks for.
+-- The tables that a reader looks for.
 pub mod Settled
+pub mod Books

@@ -1,1 +1,2 @@
-// The settled examples that document 01 marks to be proved, as one table under one statement. A definition and a theorem alone.
+// The settled examples of document 01 that are proved: those it marks so, as one table under one statement, and those of a seventeenth
+// slot. Definitions and theorems alone.
