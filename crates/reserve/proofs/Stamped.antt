@@ -107,9 +107,9 @@ module _ (batches address stamp account : List ℕ) where
   unfolding stampAnswer
   stamp-range = in-range (checked batches address stamp account)
 
-  pub stamp-answered : (a : StampAnswer) → checked batches address stamp account ≡ a → stampAnswer batches address stamp account ≡ stampNumber a
+  pub stamp-answered : (x a : StampAnswer) → x ≡ checked batches address stamp account → x ≡ a → stampAnswer batches address stamp account ≡ stampNumber a
   unfolding stampAnswer
-  stamp-answered a e = ap stampNumber e
+  stamp-answered x a e f = ap stampNumber (sym e ∙ f)
 
   stamp-passes : stampAnswer batches address stamp account ≡ 0 → checked batches address stamp account ≡ Passes
   unfolding stampAnswer

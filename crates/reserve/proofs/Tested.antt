@@ -139,6 +139,13 @@ true-zeros (suc n) = true-zeros n
 -- all of it
 
 module _ (s : List ℕ) where
+  -- how long the records are, and what follows them
+  records-length : Measured (length s) (capacityIn s) (countIn s) → 145 * countIn s ≤ length (drop 48 s)
+  records-length z = simp length-drop (omega (arith, z .whole, z .within))
+
+  rest-length : Measured (length s) (capacityIn s) (countIn s) → length (drop (48 + 145 * countIn s) s) ≡ 145 * (capacityIn s - countIn s)
+  rest-length z = simp length-drop (omega (arith, z .whole, z .within))
+
   pub said : Bytes s → wellFormed s ≡ true → WellFormed s
   unfolding wellFormed
   said b e =
@@ -150,9 +157,7 @@ module _ (s : List ℕ) where
       let m = labelled-true s (p .0) in
       let z = sized-true (length s) (capacityIn s) (countIn s) (q .0) in
       let l = levelled-true (stateIn s) (startingIn s) (depthIn s) (countIn s) (r .0) in
-      let long : 145 * countIn s ≤ length (drop 48 s) = simp length-drop (omega (arith, z .whole, z .within)) in
-      let left : length (drop (48 + 145 * countIn s) s) ≡ 145 * (capacityIn s - countIn s) = simp length-drop (omega (arith, z .whole, z .within)) in
-      let v = stand-true (depthIn s) (overlayIn s) (recordsIn s) (each-cut (countIn s) (drop 48 s) long) (bytes-cut (countIn s) (drop 48 s) (bytes-drop 48 s b)) (u .1) in
+      let v = stand-true (depthIn s) (overlayIn s) (recordsIn s) (each-cut (countIn s) (drop 48 s) (records-length z)) (bytes-cut (countIn s) (drop 48 s) (bytes-drop 48 s b)) (u .1) in
       record {
         marked = m .0;
         version = m .1;
@@ -167,7 +172,7 @@ module _ (s : List ℕ) where
         rising = rises-true (recordsIn s) (u .0);
         fitting = v .0;
         near = v .1;
-        cleared = zeros-true _ (t .1) ∙ ap (λ (n : ℕ). replicate n 0) left;
+        cleared = zeros-true _ (t .1) ∙ ap (λ (n : ℕ). replicate n 0) (rest-length z);
       }
 
   pub heard : WellFormed s → wellFormed s ≡ true

@@ -37,7 +37,9 @@ fine t =
 
 answered : (t : Checked) (a : StampAnswer) → t .check-stamp .result ≡ a → let k = t .before .before .before .before .before .before .before .before .before in
     stampAnswer (k .args .batches .now) (k .args .address .now) (k .args .stamp .now) (k .args .account .now) ≡ stampNumber a
-answered t a e = let k = t .before .before .before .before .before .before .before .before .before in Stamped.stamp-answered (k .args .batches .now) (k .args .address .now) (k .args .stamp .now) (k .args .account .now) a (sym (t .check-stamp .ensures) ∙ e)
+answered t a e =
+    let k = t .before .before .before .before .before .before .before .before .before in
+    Stamped.stamp-answered (k .args .batches .now) (k .args .address .now) (k .args .stamp .now) (k .args .account .now) (t .check-stamp .result) a (t .check-stamp .ensures) e
 
 refusal : (t : Checked) (a : StampAnswer) → t .check-stamp .result ≡ a → (stampNumber a ≡ 0 → ⊥) → let k = t .before .before .before .before .before .before .before .before .before in
     let e = offered (k .args .book .now) (k .args .batches .now) (k .args .address .now) (k .args .stamp .now) (k .args .account .now) in
