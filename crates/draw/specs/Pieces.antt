@@ -1,4 +1,5 @@
--- Pairs kept one behind the other in a buffer.
+-- What the functions inside this crate promise one another: pairs kept one behind the other in a buffer, a cell read, the walk along the
+-- shelf. No promise of a public function speaks of these.
 use mathlib.Core.List.{List, [], _∷_, _++_}
 use mathlib.Core.Path.{_≡_}
 use Prim.Native.Nat.{ℕ, zero, suc, _+_, _≤_}
@@ -17,7 +18,7 @@ unfoldable pub pieces : ℕ → List ℕ → List (List ℕ)
 pieces zero s = []
 pieces (suc n) s = take 64 s ∷ pieces n (drop 64 s)
 
--- a pair that is held already, or put in at a place
+-- the pairs held, once this one is put in at its place, or is among them already
 abbrev pub putIn : Found → List ℕ → List (List ℕ) → List (List ℕ)
 putIn Held pair held = held
 putIn (At i) pair held = take i held ++ (pair ∷ drop i held)

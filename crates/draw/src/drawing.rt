@@ -87,6 +87,7 @@ fn collect(book: &[u8], shelf: &[u8], anchor: &[u8], best: &mut [u8]) -> Collect
     let mut held = 0;
     let mut i = 0;
     while i < records {
+        // A record's address stands behind its slot and time, 48 bytes, and the first record behind the header, 48 more.
         let start = 96 + 145 * i;
         let end = start + 32;
         let read = read_cell(
