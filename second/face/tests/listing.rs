@@ -3,17 +3,24 @@
 use second::chance::Chance;
 use second::listing::listing;
 use second::{book, made};
+use std::collections::BTreeMap;
+use std::fs::File;
 use std::io::{ErrorKind, Write};
 use std::path::Path;
-use std::process::{Command, Stdio};
+use std::process::{Child, Command, Stdio};
 
-/// What the built program writes to standard output. It reads all that it will read before it writes.
-fn printed(input: &[u8]) -> Vec<u8> {
+/// The built program, on that standard input.
+fn started(input: Stdio) -> Child {
     let program = Path::new(env!("CARGO_MANIFEST_DIR")).join("../../target/bin/list");
     assert!(program.is_file(), "target/bin/list is missing: run `rt check list` first");
     let mut command = Command::new(program);
-    command.stdin(Stdio::piped()).stdout(Stdio::piped()).stderr(Stdio::piped());
-    let mut child = command.spawn().expect("the program starts");
+    command.stdin(input).stdout(Stdio::piped()).stderr(Stdio::piped());
+    command.spawn().expect("the program starts")
+}
+
+/// What it writes to standard output. It reads all that it will read before it writes.
+fn printed(input: &[u8]) -> Vec<u8> {
+    let mut child = started(Stdio::piped());
     match child.stdin.take().expect("a pipe").write_all(input) {
         // Of an input that is too large it leaves some unread.
         Err(error) if error.kind() == ErrorKind::BrokenPipe && input.len() > 65_537 => (),
@@ -31,7 +38,7 @@ fn compared(input: &[u8]) -> String {
     expected
 }
 
-/// A record of a slot, and what makes it that of its book.
+/// A record that a book of that overlay and depth may hold.
 fn record(chance: &mut Chance, overlay: &[u8; 32], depth: u8, batches: &[[u8; 32]]) -> [u8; 145] {
     let mut address: [u8; 32] = chance.array();
     let near = match chance.below(4) {
@@ -49,19 +56,22 @@ fn record(chance: &mut Chance, overlay: &[u8; 32], depth: u8, batches: &[[u8; 32
     made::record(&made::stamp(batch, made::bucket(&address), index, time, &chance.array()), &address)
 }
 
-/// A well-formed book of that capacity that holds as many records, or fewer where slots meet.
+/// A well-formed book of that capacity that holds so many records.
 fn filled(chance: &mut Chance, capacity: usize, count: usize) -> Vec<u8> {
     let overlay: [u8; 32] = chance.array();
     let depth = if chance.once_in(2) { 0 } else { chance.below(17) as u8 };
-    let batches: Vec<[u8; 32]> = (0..count + 1).map(|_| chance.array()).collect();
-    let mut records: Vec<_> = (0..count).map(|_| record(chance, &overlay, depth, &batches)).collect();
-    records.sort_unstable();
-    records.dedup_by(|one, other| one[..40] == other[..40]);
+    let batches: Vec<[u8; 32]> = (0..1 + chance.below(3)).map(|_| chance.array()).collect();
+    let mut slots = BTreeMap::new();
+    while slots.len() < count {
+        let record = record(chance, &overlay, depth, &batches);
+        slots.insert(record[..40].to_vec(), record);
+    }
     let mut bytes = vec![0; book::HEADER + book::RECORD * capacity];
     assert_eq!(book::open(&mut bytes, &overlay, capacity as u64, chance.below(usize::from(depth) + 1) as u64), 0);
     bytes[7] = depth;
-    bytes[44..48].copy_from_slice(&(records.len() as u32).to_be_bytes());
-    bytes[book::HEADER..][..book::RECORD * records.len()].copy_from_slice(&records.concat());
+    bytes[44..48].copy_from_slice(&(count as u32).to_be_bytes());
+    let records: Vec<_> = slots.into_values().collect();
+    bytes[book::HEADER..][..book::RECORD * count].copy_from_slice(&records.concat());
     assert_eq!(book::check_book(&bytes), 0);
     bytes
 }
@@ -141,4 +151,13 @@ fn random_books() {
         book[at] ^= 1 << chance.below(8);
         compared(&book);
     }
+}
+
+/// A folder opens, and no byte of it can be read.
+#[test]
+fn a_read_that_fails() {
+    let folder = File::open(env!("CARGO_MANIFEST_DIR")).expect("this folder");
+    let output = started(folder.into()).wait_with_output().expect("the program ends");
+    assert!(output.stdout.is_empty());
+    assert!(output.stderr.starts_with(b"standard input: "), "{output:?}");
 }
