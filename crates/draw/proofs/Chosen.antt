@@ -35,7 +35,7 @@ past-first p q l m a b w h r k = go (List·Memᴰ·cases-cons (w r k)) (List·Me
     go (inl e) (inl f) = Memᴰ·cast f h
     go (inl e) (inr x) = absurd (less-not-less p q (ap (byteOrder p) (sym e) ∙ ascending-head p l a r x) (ascending-head q m b p h))
 
-within-length : (l m : List (List ℕ)) → Ascending l → Ascending m → Within l m → length l ≤ length m
+pub within-length : (l m : List (List ℕ)) → Ascending l → Ascending m → Within l m → length l ≤ length m
 within-length [] m a b w = omega arith
 within-length (p ∷ l) [] a b w = absurd (List·Memᴰ·not-nil (w p (List·Memᴰ·head refl)))
 within-length (p ∷ l) (q ∷ m) a b w =

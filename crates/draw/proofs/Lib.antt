@@ -2,9 +2,12 @@
 pub mod Entering
 pub mod Gathering
 pub mod Chosen
+pub mod Different
 pub mod Shelves
 pub mod Laying
 pub mod Answered
+pub mod Judging
+pub mod Tabled
 pub mod Theorems
 pub mod Pieces
 pub mod Placing

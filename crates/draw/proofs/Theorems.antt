@@ -10,12 +10,16 @@ use Rattle.draw.specs.declared.answer.DrawAnswer.the-variants.{Drawn}
 use Rattle.draw.specs.Shelf.{Cell, ownAddress, pairOf, cellsHashed, cellsOn, shelfAnswer}
 use Rattle.draw.specs.Sample.{gathered, sixteen, written, commitmentOf, commitmentHashed}
 use Rattle.draw.specs.Draw.{addressesIn, cellsDrawn, pairsDrawn, sixteenDrawn, drawn, drawHashed}
-use Rattle.draw.specs.Theorems.{EachHashesToItsRecord, TheSixteenSmallest, SixteenOnce, EachDifferentPairOnce, OrderDoesNotMatter, OneAnchorOneHash, OneHashOneSample}
+use Rattle.draw.specs.Theorems.{DrawAnswers, EachHashesToItsRecord, TheSixteenSmallest, SixteenOnce, EachDifferentPairOnce, OrderDoesNotMatter, OneAnchorOneHash, OneHashOneSample}
 use Rattle.draw.proofs.Shelves.{shelf-drawn, shelves-same}
 use Rattle.draw.proofs.Gathering.{all-from, all-ascending, gathered-has, sixteen-same, sixteen-smallest}
 use Rattle.draw.proofs.Chosen.{smallest-once}
 use Rattle.draw.proofs.Laying.{commitment-same}
 use Rattle.draw.proofs.Answered.{draw-good, drawn-commitment, drawn-sample, addresses-length, sixteen-sized}
+use Rattle.draw.proofs.Tabled.{answers-table}
+
+pub draw-answers : DrawAnswers
+draw-answers book shelf anchor sample n p byte = answers-table book shelf anchor sample byte n p
 
 -- ---- the cells are as many as the records
 
