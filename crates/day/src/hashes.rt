@@ -26,16 +26,28 @@ pub(crate) fn draws(anchor: &[u8], a: Machine, b: Machine, c: Machine, d: Machin
 fn drawn(name: &[u8], m: Machine, first: Machine) {
     let hash = m.hash;
     say(name);
-    if m.drawn == 0 {
-        hex(&hash);
+    if m.drawn != 0 {
+        not_drawn(m.drawn);
+        return;
+    }
+    hex(&hash);
+    if one_hash(first, m) {
+        say(b"\n");
     } else {
-        say(b"no hash: the draw was refused with number ");
-        number(m.drawn as u64, 1);
+        say(b"   not machine A's\n");
     }
-    if !one_hash(first, m) {
-        say(b"   not machine A's");
+}
+
+// Why there is no hash.
+fn not_drawn(answer: u32) {
+    say(b"no hash, since the draw answered ");
+    number(answer as u64, 1);
+    match answer {
+        23 => say(b": a chunk is missing\n"),
+        24 => say(b": a chunk is not the one that its record names\n"),
+        26 => say(b": the book has fewer than sixteen chunks\n"),
+        _ => say(b"\n"),
     }
-    say(b"\n");
 }
 
 // Whether the four books have one digest.
@@ -49,7 +61,7 @@ pub(crate) fn on_books(a: Machine, b: Machine, c: Machine, d: Machine) {
 }
 
 // What became of a machine that missed offers; nothing of one that missed none.
-pub(crate) fn on_missed(name: &[u8], m: Machine, first: Machine) {
+fn on_missed(name: &[u8], m: Machine, first: Machine) {
     if m.missed == 0 {
         return;
     }
@@ -81,8 +93,11 @@ fn on_other_book(same_hash: bool) {
     }
 }
 
-// Agreement is said of four equal hashes alone.
+// Who missed offers, and whether the four agree: that is said of four equal hashes alone.
 pub(crate) fn on_all(a: Machine, b: Machine, c: Machine, d: Machine) {
+    on_missed(b"Machine B", b, a);
+    on_missed(b"Machine C", c, a);
+    on_missed(b"Machine D", d, a);
     if agree(a, b, c, d) {
         say(b"THE FOUR MACHINES AGREE: all four drew one hash.\n");
     } else {

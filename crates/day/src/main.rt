@@ -13,10 +13,10 @@ use file::load;
 use hashes::draws;
 use hashes::on_all;
 use hashes::on_books;
-use hashes::on_missed;
 use machine::CAPACITY;
 use machine::Machine;
 use machine::noon;
+use report::answered;
 use report::books;
 use report::reasons;
 use report::words;
@@ -64,6 +64,13 @@ fn listen(batches: &[u8], offers: &[u8], chunks: &[u8], overlay: &[u8], anchor: 
     if a.heard == 0 || b.heard == 0 || c.heard == 0 || d.heard == 0 || less.heard == 0 {
         return;
     }
+    if answered(a, 15) > 0 {
+        blame(
+            b"batches",
+            b"is damaged: it is not in the order of batch ids, or a depth is out of range",
+        );
+        return;
+    }
     begin(offer_count(offers) as u64);
     scene_one(anchor, a, b, c, d);
     scene_two(anchor, a, b, c, less);
@@ -105,9 +112,9 @@ fn begin(offers: u64) {
     say(b" records.\n\n");
 }
 
-// All four heard all.
+// The morning as it was to be.
 fn scene_one(anchor: &[u8], a: Machine, b: Machine, c: Machine, d: Machine) {
-    say(b"SCENE ONE: every machine heard every offer\n\n");
+    say(b"SCENE ONE: this morning ");
     books(a, b, c, d);
     words();
     reasons(a, b, c, d);
@@ -116,13 +123,10 @@ fn scene_one(anchor: &[u8], a: Machine, b: Machine, c: Machine, d: Machine) {
     on_all(a, b, c, d);
 }
 
-// One did not.
+// The same morning, where the fourth machine hears less.
 fn scene_two(anchor: &[u8], a: Machine, b: Machine, c: Machine, d: Machine) {
-    say(b"\nSCENE TWO: the same morning, but some offers never reached machine D\n\n");
+    say(b"\nSCENE TWO: the same morning again, but now ");
     books(a, b, c, d);
     draws(anchor, a, b, c, d);
-    on_missed(b"Machine B", b, a);
-    on_missed(b"Machine C", c, a);
-    on_missed(b"Machine D", d, a);
     on_all(a, b, c, d);
 }

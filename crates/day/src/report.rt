@@ -5,8 +5,13 @@ use crate::text::number;
 use crate::text::say;
 use crate::text::short;
 
-// A line for each machine.
+// Who heard all, and a line for each machine.
 pub(crate) fn books(a: Machine, b: Machine, c: Machine, d: Machine) {
+    if a.missed == 0 && b.missed == 0 && c.missed == 0 && d.missed == 0 {
+        say(b"every machine heard every offer\n\n");
+    } else {
+        say(b"some offers did not reach every machine\n\n");
+    }
     say(
         b"At noon       heard  missed    kept  dropped  refused   records  depth   digest of the book\n",
     );
@@ -146,7 +151,7 @@ fn reason(why: &[u8], answer: usize, a: Machine, b: Machine, c: Machine, d: Mach
 }
 
 // How many offers had an answer.
-fn answered(m: Machine, answer: usize) -> u64 {
+pub(crate) fn answered(m: Machine, answer: usize) -> u64 {
     let answers = m.answers;
     if answer < ANSWERS { answers[answer] } else { 0 }
 }
