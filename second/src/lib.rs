@@ -15,6 +15,7 @@ pub mod nearness;
 pub mod postage;
 
 // For tests, benchmarks and vectors.
+pub mod cases;
 pub mod chance;
 pub mod hex;
 pub mod made;
