@@ -15,6 +15,7 @@ pub mod nearness;
 pub mod postage;
 
 // For tests, benchmarks, and the data of the proved programs.
+pub mod cases;
 pub mod chance;
 pub mod day;
 pub mod hex;

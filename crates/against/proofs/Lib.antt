@@ -1,0 +1,2 @@
+-- That the verdicts are different ones.
+pub mod Apart
