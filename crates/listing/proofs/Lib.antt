@@ -1,4 +1,5 @@
--- Laws that belong to no one function.
+-- Laws that belong to no one function. A reader opens Theorems.
 pub mod Spelled
 pub mod Puts
 pub mod Listed
+pub mod Theorems

@@ -1,5 +1,5 @@
 -- Text put behind text.
-use mathlib.Core.Path.{_≡_, refl, sym, ap, _∙_}
+use mathlib.Core.Path.{_≡_, sym, ap, _∙_}
 use mathlib.Core.List.{List, [], _∷_, _++_, append-assoc}
 use Prim.Native.Nat.{ℕ, suc, _+_, _≤_, _<_}
 use native.Mathlib.Nat.{add-assoc}
@@ -9,7 +9,7 @@ use lib.ListN.{length, take, drop, set, length-append, length-set}
 use lib.Seq.{take-at, length-take-le, set-split, append-snoc}
 use Rattle.octets.specs.Moving.{over, placed}
 use Rattle.octets.proofs.Edits.{drop-over, length-over, placed-fits}
-use Rattle.listing.specs.Field.{decimal, hex}
+use Rattle.listing.specs.Field.{decimal}
 use Rattle.listing.specs.Put.{Put}
 
 -- two edits, the second where the first ends, are one

@@ -1,7 +1,7 @@
 -- Digits, one by one.
-use mathlib.Core.Path.{_≡_, refl, sym, ap, _∙_}
+use mathlib.Core.Path.{_≡_, refl, sym}
 use mathlib.Core.Bool.{Bool, true, false, cond}
-use mathlib.Core.List.{List, [], _∷_, _++_, append-assoc, append-nil}
+use mathlib.Core.List.{List, [], _∷_, _++_, append-assoc}
 use Prim.Native.Nat.{ℕ, zero, suc, _+_, _-_, _*_, _/_, _%_, _^_, _≤_, _<_}
 use native.Mathlib.Nat.{pow-suc}
 use native.Mathlib.Numerals.{unary-clauses}
@@ -24,11 +24,11 @@ digit-letter d h = rw (le-ltb d 10 h)
 
 -- the digits of a number
 
-digits-more : (most n : ℕ) → 10 ≤ n → digits (suc most) n ≡ digits most (n / 10) ++ (digit (n % 10) ∷ [])
+pub digits-more : (most n : ℕ) → 10 ≤ n → digits (suc most) n ≡ digits most (n / 10) ++ (digit (n % 10) ∷ [])
 unfolding digits
 digits-more most n h = rw (le-ltb n 10 h)
 
-digits-one : (most n : ℕ) → n < 10 → digits (suc most) n ≡ digit n ∷ []
+pub digits-one : (most n : ℕ) → n < 10 → digits (suc most) n ≡ digit n ∷ []
 unfolding digits
 digits-one most n h = let e : n % 10 ≡ n = omega arith in rw (lt-ltb n 10 h, e)
 

@@ -1,6 +1,6 @@
 -- The loop's invariant: the digits that are yet to be stored, before those that are stored, are all.
 use Prim.Native.Nat.{suc, _-_, _^_, _≤_, _<_}
-use mathlib.Core.Path.{_≡_, refl, sym, _∙_}
+use mathlib.Core.Path.{_≡_, refl, _∙_}
 use mathlib.Core.List.{_++_, append-nil}
 use native.Mathlib.Omega.{arith}
 use borrow.Author.Needs.{needs}

@@ -1,13 +1,12 @@
 -- The fields of line one, one behind the other, each where it stands in the header.
 use Prim.Native.Nat.{_+_, _≤_}
-use mathlib.Core.Path.{_≡_, refl, sym, ap, _∙_}
+use mathlib.Core.Path.{refl, _∙_}
 use native.Mathlib.Nat.{le-of-eq}
 use native.Mathlib.Omega.{arith}
 use borrow.Author.Needs.{needs}
-use lib.ListN.{length}
 use Rattle.octets.proofs.Numbers.{bigAt-fits}
 use Rattle.octets.proofs.Edits.{part-length}
-use Rattle.reserve.specs.Layout.{markIn, versionIn, stateIn}
+use Rattle.reserve.specs.Layout.{markIn, stateIn}
 use Rattle.reserve.proofs.Fields
 use Rattle.listing.specs.Line.{space, line, stateWord, headerLine}
 use Rattle.listing.proofs.Puts

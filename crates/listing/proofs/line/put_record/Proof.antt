@@ -5,15 +5,13 @@ use native.Mathlib.Omega.{arith}
 use borrow.Author.Needs.{needs}
 use lib.ListN.{length, take, drop}
 use lib.Seq.{take-take}
-use Rattle.octets.specs.Number.{big}
 use Rattle.octets.proofs.Numbers.{bigAt-fits}
 use Rattle.octets.proofs.Edits.{part-length}
-use Rattle.nearness.specs.Bits.{sharedBits}
 use Rattle.nearness.specs.Near.{bitsIn}
-use Rattle.reserve.specs.Record.{timeIn, addressIn}
+use Rattle.reserve.specs.Record.{addressIn}
 use Rattle.reserve.proofs.Fields
-use Rattle.listing.specs.Field.{decimal, hex}
-use Rattle.listing.specs.Line.{space, lineFeed, line, recordLine}
+use Rattle.listing.specs.Field.{hex}
+use Rattle.listing.specs.Line.{space, line, recordLine}
 use Rattle.listing.proofs.Puts
 use Rattle.listing.proofs.line.put_record.Statement.{statement}
 use Rattle.listing.proofs.line.put_record.Tie as tie

@@ -1,10 +1,8 @@
 -- A book of 65,536 bytes has at most 451 records, and the buffer has room for 452 lines of 126 bytes.
-use Prim.Native.Nat.{ℕ}
-use mathlib.Core.Path.{_≡_, ap, _∙_}
+use mathlib.Core.Path.{_≡_, _∙_}
 use native.Mathlib.Omega.{arith}
 use borrow.Author.Needs.{needs}
-use lib.ListN.{drop}
-use Rattle.reserve.specs.Layout.{overlayIn, countIn, cut}
+use Rattle.reserve.specs.Layout.{countIn}
 use Rattle.reserve.proofs.Fields
 use Rattle.listing.specs.Listing.{listing}
 use Rattle.listing.proofs.Puts
