@@ -12,7 +12,7 @@ use Rattle.reserve.specs.Layout.{capacityIn, countIn, cut}
 use Rattle.reserve.specs.Check.{labelled, sized, wellFormed, checked}
 use Rattle.reserve.proofs.Truths.{both}
 use Rattle.reserve.proofs.Tested.{Measured, sized-true}
-use Rattle.reserve.proofs.Ways.{formed-true, formed-false}
+use Rattle.reserve.proofs.Ways.{formed-as}
 use Rattle.reserve.proofs.Cuts.{cut-first, cut-last}
 use Rattle.listing.specs.Line.{lineFeed, line, recordLine, recordLines}
 use Rattle.listing.specs.Listing.{tooLarge, badBook, listing, printed}
@@ -44,11 +44,11 @@ module _ (s : List ℕ) where
 
   pub printed-lines : length s ≤ 65536 → checked s ≡ WellFormed → listing s ≡ printed s
   unfolding printed
-  printed-lines h e = rw (le-ltb 65536 (length s) h, formed-true s e)
+  printed-lines h e = rw (le-ltb 65536 (length s) h, formed-as s e)
 
   pub printed-bad : length s ≤ 65536 → checked s ≡ NotWellFormed → badBook ++ (lineFeed ∷ []) ≡ printed s
   unfolding printed line
-  printed-bad h e = rw (le-ltb 65536 (length s) h, formed-false s e)
+  printed-bad h e = rw (le-ltb 65536 (length s) h, formed-as s e)
 
   pub formed-sized : wellFormed s ≡ true → Measured (length s) (capacityIn s) (countIn s)
   unfolding wellFormed

@@ -3,7 +3,7 @@ use mathlib.Core.Path.{sym, _∙_}
 use mathlib.Core.List.{[], _∷_, _++_}
 use native.Mathlib.Omega.{arith}
 use borrow.Author.Needs.{needs}
-use Rattle.reserve.proofs.Ways.{formed-true}
+use Rattle.reserve.proofs.Ways.{formed-as}
 use Rattle.listing.specs.Line.{lineFeed}
 use Rattle.listing.specs.Listing.{tooLarge, badBook, listing}
 use Rattle.listing.proofs.Puts
@@ -21,7 +21,7 @@ put-book-requires : tie.Need-put-book-requires
 put-book-requires c κs =
     let b = c .before .before .before in
     let s = b .before .before .before .args .input .now in
-    (search needs, formed-true s (sym (b .check-book .ensures) ∙ c .before .enum-told .given .1), b .before .if1 .left)
+    (search needs, formed-as s (sym (b .check-book .ensures) ∙ c .before .enum-told .given .1), b .before .if1 .left)
 
 returns-2 : tie.Need-returns-2
 returns-2 c =
