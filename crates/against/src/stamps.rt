@@ -14,7 +14,7 @@ pub(crate) fn made(call: u8, rest: &[u8], came: &mut [u8]) -> usize {
 
 fn nearness(rest: &[u8], came: &mut [u8]) -> usize {
     let near = nearness::near::nearness(field(rest, 0), field(rest, 1));
-    write32(came, 0, near.answer());
+    write32(came, 0, near.number());
     write32(came, 4, near.bits());
     8
 }

@@ -13,9 +13,9 @@ unfoldable pub nearnessOf : List ℕ → List ℕ → Near
 nearnessOf first second = cond (eqb (length first) 32 && eqb (length second) 32) (Bits (sharedBits first second)) WrongLength
 
 -- for each answer the number handed back
-abbrev pub answerOf : Near → ℕ
-answerOf (Bits n) = 0
-answerOf WrongLength = 10
+abbrev pub nearNumber : Near → ℕ
+nearNumber (Bits n) = 0
+nearNumber WrongLength = 10
 
 -- and the bits beside it
 abbrev pub bitsIn : Near → ℕ

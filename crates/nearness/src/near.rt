@@ -3,7 +3,7 @@ use octets::number::read64;
 ghost use mathlib.Core.Path.{_≡_};
 ghost use lib.ListN.{length};
 ghost use Rattle.nearness.specs.Bits.{sharedBits};
-ghost use Rattle.nearness.specs.Near.{nearnessOf, answerOf, bitsIn};
+ghost use Rattle.nearness.specs.Near.{nearnessOf, nearNumber, bitsIn};
 
 // What is said of two byte strings: their shared bits, or that one of them is not 32 bytes long.
 pub enum Near {
@@ -13,8 +13,8 @@ pub enum Near {
 
 impl Near {
     // The number handed back for this answer.
-    pub fn answer(self) -> u32
-        ensures { λ r. ⌜ r ≡ answerOf self ⌝ }
+    pub fn number(self) -> u32
+        ensures { λ r. ⌜ r ≡ nearNumber self ⌝ }
     {
         match self {
             Near::Bits(_) => 0,

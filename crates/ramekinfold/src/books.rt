@@ -19,7 +19,7 @@ pub extern "C" fn rkf_open(
     ensures { λ _. ⌜ now (book .exit) ≡ openBytes (now (book .entry)) (now (overlay .entry)) capacity «starting_depth» ⌝ }
 {
     let answer = reserve::open::open(book, overlay, capacity, starting_depth);
-    answer.answer()
+    answer.number()
 }
 
 #[no_mangle]
@@ -27,7 +27,7 @@ pub extern "C" fn rkf_check_book(book: &[u8]) -> u32
     ensures { λ r. ⌜ r ≡ bookNumber (checked (now (book .entry))) ⌝ }
 {
     let answer = reserve::check::check_book(book);
-    answer.answer()
+    answer.number()
 }
 
 // A host in another language holds both records, and is told which one is meant.

@@ -16,7 +16,7 @@ pub extern "C" fn rkf_nearness(first: &[u8], second: &[u8]) -> Numbered
 {
     let near = nearness::near::nearness(first, second);
     Numbered {
-        answer: near.answer(),
+        answer: near.number(),
         number: near.bits(),
     }
 }

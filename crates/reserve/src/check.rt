@@ -25,7 +25,7 @@ pub enum BookAnswer {
 
 impl BookAnswer {
     // The number handed back for this answer.
-    pub fn answer(self) -> u32
+    pub fn number(self) -> u32
         ensures { λ r. ⌜ r ≡ bookNumber self ⌝ }
     {
         match self {

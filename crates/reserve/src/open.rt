@@ -17,7 +17,7 @@ pub enum OpenAnswer {
 
 impl OpenAnswer {
     // The number handed back for this answer.
-    pub fn answer(self) -> u32
+    pub fn number(self) -> u32
         ensures { λ r. ⌜ r ≡ openNumber self ⌝ }
     {
         match self {

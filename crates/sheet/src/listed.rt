@@ -53,7 +53,7 @@ fn begun(first: u8, second: u8) -> [u8; 32] {
 // The listing's first line.
 fn header(tally: Tally, book: &[u8]) -> Tally {
     heading(b"RSV 1 good 0 0 2 16\n");
-    let tally = tally.number(b"Well formed", 0, check_book(book).answer() as u64);
+    let tally = tally.number(b"Well formed", 0, check_book(book).number() as u64);
     let tally = tally.bytes(b"Mark and a zero byte", 0x52535600, read32(book, 0));
     let tally = tally.number(b"Version", 1, read16(book, 3) as u64);
     let tally = tally.number(b"State good", 0, overfull(book) as u64);
