@@ -159,7 +159,8 @@ impl Maker {
         self.chunks.sort_by_key(|chunk| chunk.address);
         self.chunks.dedup_by_key(|chunk| chunk.address);
         let count = self.offers.len() as u16;
-        let heard = [9, 14, 11, 17].map(|repeats| self.heard(count, repeats));
+        let heard = [(false, 9), (true, 14), (true, 11), (true, 17)];
+        let heard = heard.map(|(mixed, repeats)| self.heard(count, mixed, repeats));
         let batches = self.batches.iter().flat_map(|batch| made::batch(&batch.id, &batch.owner, 17)).collect();
         let anchor = self.chance.array();
         let Maker { overlay, chunks, offers, .. } = self;
@@ -171,10 +172,10 @@ impl Maker {
         day
     }
 
-    /// Every offer of the stream once, in a new order (the first machine's is the stream's own), and some again.
-    fn heard(&mut self, count: u16, repeats: usize) -> Vec<u16> {
+    /// Every offer of the stream once, in its own order or a mixed one, and some again.
+    fn heard(&mut self, count: u16, mixed: bool, repeats: usize) -> Vec<u16> {
         let mut heard: Vec<u16> = (0..count).collect();
-        if repeats > 9 {
+        if mixed {
             shuffle(&mut self.chance, &mut heard);
         }
         for _ in 0..repeats {
