@@ -2,7 +2,8 @@
  *
  * Every call answers for every input: there is nothing to check first, nothing to free, and no call keeps a pointer.
  * A lent slice is a pointer and its length in bytes; where the length is 0, nothing is read through the pointer.
- * Answers are the numbers of the project's paper: 0 is done, and a refusal hands back zeros beside its number.
+ * Answers are the numbers of the project's paper. 0 is done, and with an offer 2 and 3 are done too; every other number is a
+ * refusal, leaves each lent byte as it was and hands back zeros beside it, but for the place of a chunk that a draw names.
  * What each call promises stands in docs/PROMISES.md.
  */
 #ifndef RAMEKINFOLD_H
