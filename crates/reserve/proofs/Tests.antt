@@ -2,20 +2,20 @@
 use mathlib.Core.Path.{_≡_, refl, sym, ap, _∙_}
 use mathlib.Core.Bool.{Bool, true, false, _&&_}
 use mathlib.Core.Logic.{_⊎_, inl, inr}
-use mathlib.Core.List.{List, [], _∷_, _++_}
-use Prim.Native.Nat.{ℕ, suc, _+_, _-_, _*_, _^_, _≤_, _<_}
+use mathlib.Core.List.{List, [], _∷_}
+use Prim.Native.Nat.{ℕ, zero, suc, _+_, _-_, _*_, _≤_, _<_}
 use native.Mathlib.Numerals.{add-one}
-use native.Mathlib.Nat.{le-of-lt, le-of-eq, zero-mul, zero-add, mul-pos, one-le-pow}
+use native.Mathlib.Nat.{le-of-lt, le-of-eq}
 use native.Mathlib.Omega.{arith}
+use lib.Bits.{bitOr, or-add-and, and-le-l, and-le-r}
 use lib.Dec.{eqb, ltb}
-use lib.ListN.{length, getD, take, drop, take-append-drop, drop-of-length-le}
-use lib.Seq.{drop-cons, drop-drop, take-take}
-use borrow.Author.Tests.{ne-eqb, eqb-true, eqb-false, le-ltb, lt-ltb}
+use lib.ListN.{length, getD, take, drop, drop-of-length-le}
+use lib.Seq.{drop-cons, take-take}
+use borrow.Author.Tests.{eq-eqb, ne-eqb, eqb-true, eqb-false, le-ltb, lt-ltb}
 use Rattle.octets.specs.Order.{byteOrder, numberOrder}
 use Rattle.octets.specs.Bytes.{Bytes}
-use Rattle.octets.specs.Number.{big, bigAt}
+use Rattle.octets.specs.Number.{big}
 use Rattle.octets.proofs.Bytes.{bytes-take, bytes-drop}
-use Rattle.octets.proofs.Numbers.{big-nil, big-cons, bigAt-fits}
 use Rattle.octets.proofs.Ordered.{compared, number-less, number-same, number-more, order-number}
 use Rattle.octets.proofs.Edits.{part-length}
 use Rattle.reserve.specs.Rank.{isLess}
@@ -35,38 +35,27 @@ pub zeros-cons : (x : ℕ) (s : List ℕ) → zeros (x ∷ s) ≡ (eqb x 0 && ze
 unfolding zeros
 zeros-cons x s = refl
 
-pub zeros-append : (s t : List ℕ) → zeros (s ++ t) ≡ (zeros s && zeros t)
-zeros-append [] t = rw zeros-nil
-zeros-append (x ∷ s) t = rw (zeros-cons x (s ++ t), zeros-cons x s, zeros-append s t) (grouped (eqb x 0))
-  where
-    grouped : (a : Bool) → (a && (zeros s && zeros t)) ≡ ((a && zeros s) && zeros t)
-    grouped true = refl
-    grouped false = refl
+grouped : (a b c : Bool) → (a && (b && c)) ≡ ((a && b) && c)
+grouped true b c = refl
+grouped false b c = refl
 
-zeros-number : (s : List ℕ) → zeros s ≡ eqb (big s) 0
-zeros-number [] = rw (zeros-nil, big-nil)
-zeros-number (x ∷ s) = rw (zeros-cons, big-cons, zeros-number s) (go (eqb x 0) refl)
+-- two numbers joined are zero where both are
+joined-zero : (x y : ℕ) → eqb (bitOr x y) 0 ≡ (eqb x 0 && eqb y 0)
+joined-zero x y = go (eqb x 0) (eqb y 0) refl refl
   where
-    go : (t : Bool) → eqb x 0 ≡ t → (eqb x 0 && eqb (big s) 0) ≡ eqb (x * 256 ^ length s + big s) 0
-    go true e = let z : x ≡ 0 = eqb-true x 0 e in rw (z, zero-mul, zero-add)
-    go false e =
-        let p : 0 < x * 256 ^ length s = mul-pos (x-above (eqb-false x 0 e)) (one-le-pow (length s) 256 (omega arith)) in
-        rw e (sym (ne-eqb (x * 256 ^ length s + big s) 0 (λ q. omega arith)))
-      where
-        x-above : (x ≡ 0 → ⊥) → 0 < x
-        x-above h = omega arith
-
-parted : (n i : ℕ) (s : List ℕ) → drop i s ≡ take n (drop i s) ++ drop (i + n) s
-parted n i s = rw (← drop-drop n i s, take-append-drop n (drop i s))
+    go : (t u : Bool) → eqb x 0 ≡ t → eqb y 0 ≡ u → eqb (bitOr x y) 0 ≡ (t && u)
+    go true true e f = eq-eqb (bitOr x y) 0 (omega (arith, eqb-true x 0 e, eqb-true y 0 f, or-add-and x y))
+    go true false e f = ne-eqb (bitOr x y) 0 (λ q. eqb-false y 0 f (omega (arith, q, or-add-and x y, and-le-l x y)))
+    go false u e f = ne-eqb (bitOr x y) 0 (λ q. eqb-false x 0 e (omega (arith, q, or-add-and x y, and-le-r x y)))
 
 module _ (s : List ℕ) (i : ℕ) where
   -- a byte
-  pub byte-zero : i < length s → zeros (drop i s) ≡ (eqb (getD s i 0) 0 && zeros (drop (i + 1) s))
+  byte-zero : i < length s → zeros (drop i s) ≡ (eqb (getD s i 0) 0 && zeros (drop (i + 1) s))
   byte-zero h = rw (add-one, drop-cons s i 0 h) (zeros-cons (getD s i 0) (drop (suc i) s))
 
-  -- a word
-  pub word-zero : i + 8 ≤ length s → zeros (drop i s) ≡ (eqb (bigAt 8 s i) 0 && zeros (drop (i + 8) s))
-  word-zero h = ap zeros (parted 8 i s) ∙ zeros-append (take 8 (drop i s)) (drop (i + 8) s) ∙ rw (zeros-number (take 8 (drop i s)), bigAt-fits 8 s i h)
+  -- a byte joined to those before
+  pub byte-joined : (joined : ℕ) → i < length s → (eqb joined 0 && zeros (drop i s)) ≡ (eqb (bitOr joined (getD s i 0)) 0 && zeros (drop (i + 1) s))
+  byte-joined joined h = rw (byte-zero h, joined-zero joined (getD s i 0)) (grouped (eqb joined 0) (eqb (getD s i 0) 0) (zeros (drop (i + 1) s)))
 
   -- nothing is left
   pub none-left : length s ≤ i → zeros (drop i s) ≡ true

@@ -1,4 +1,4 @@
-// Whether bytes are a well-formed book: one pass, by words where it can.
+// Whether bytes are a well-formed book: one pass.
 use crate::header::byte;
 use crate::header::capacity;
 use crate::header::count;
@@ -7,7 +7,6 @@ use crate::header::starting_depth;
 use nearness::near::nearness;
 use octets::number::read16;
 use octets::number::read32;
-use octets::number::read64;
 use octets::order::Order;
 use octets::order::compare;
 ghost use mathlib.Core.Path.{_≡_};
@@ -166,31 +165,16 @@ fn below_next(book: &[u8], i: usize, count: usize) -> bool
     }
 }
 
-// Whether every byte of `s` from `from` on is zero.
+// Whether every byte of `s` from `from` on is zero. All of them are joined and nothing ends the loop early, so that many go at a time.
 fn is_zero(s: &[u8], from: usize) -> bool
     requires { ⌜ from ≤ length (now s) ⌝ }
     ensures { λ r. ⌜ r ≡ zeros (drop from (now (s .entry))) ⌝ }
 {
-    let mut i = from;
-    while 8 <= s.len() - i {
-        if read64(s, i) != 0 {
-            return false;
-        }
-        i += 8;
-    }
-    is_zero_by_bytes(s, i)
-}
-
-// The same, byte by byte.
-fn is_zero_by_bytes(s: &[u8], from: usize) -> bool
-    ensures { λ r. ⌜ r ≡ zeros (drop from (now (s .entry))) ⌝ }
-{
+    let mut joined = 0;
     let mut i = from;
     while i < s.len() {
-        if s[i] != 0 {
-            return false;
-        }
+        joined |= s[i];
         i += 1;
     }
-    true
+    joined == 0
 }

@@ -1,41 +1,35 @@
--- The loop's invariant: what is left is zero if all is.
-use Prim.Native.Nat.{_≤_, _-_}
+-- The loop's invariant: all is zero if what was joined is and what is left is.
+use Prim.Native.Nat.{_-_}
+use mathlib.Core.Bool.{Bool, true, false, _&&_}
 use mathlib.Core.Path.{_≡_, refl, sym, _∙_}
 use native.Mathlib.Omega.{arith}
 use borrow.Author.Needs.{needs}
-use borrow.Author.Tests.{eq-eqb, ne-eqb}
-use lib.ListN.{length, drop}
-use Rattle.octets.specs.Number.{bigAt}
+use lib.Dec.{eqb}
+use lib.ListN.{length, getD, drop}
 use Rattle.reserve.specs.Check.{zeros}
 use Rattle.reserve.proofs.Tests
 use Rattle.reserve.proofs.check.is_zero.Statement.{statement}
 use Rattle.reserve.proofs.check.is_zero.Tie as tie
 
 abbrev Inv-loop : tie.InvT-loop
-Inv-loop s from i₀ i = (i ≤ length s) × (zeros (drop from s) ≡ zeros (drop i s))
+Inv-loop s from joined₀ i₀ joined i = zeros (drop from s) ≡ (eqb joined 0 && zeros (drop i s))
 
 abbrev μ-loop : tie.MeasureT-loop
-μ-loop s from i₀ i = length s - i
-
-loop-holds : tie.Need-loop-holds Inv-loop μ-loop
-loop-holds c = (omega arith, refl)
-
-returns : tie.Need-returns Inv-loop μ-loop
-returns c =
-    let l = c .before .before .before in
-    let s = l .before .before .args .s .now in
-    let word = c .before .read64 .ensures in
-    sym (l .loop .inv .1 ∙ Tests.word-zero s (l .loop .i) (omega arith) ∙ rw (ne-eqb (bigAt 8 s (l .loop .i)) 0 (λ e. c .if1 .taken (word ∙ e))))
+μ-loop s from joined₀ i₀ joined i = length s - i
 
 loop-again : tie.Need-loop-again Inv-loop μ-loop
 loop-again c =
-    let l = c .before .before .before in
-    let s = l .before .before .args .s .now in
-    let word = c .before .read64 .ensures in
-    (omega arith, l .loop .inv .1 ∙ Tests.word-zero s (l .loop .i) (omega arith) ∙ rw (eq-eqb (bigAt 8 s (l .loop .i)) 0 (sym word ∙ c .if1 .left)))
+    let l = c .before .before in
+    l .loop .inv ∙ Tests.byte-joined (l .before .args .s .now) (l .loop .i) (l .loop .joined) (c .before .loop-test .taken)
 
-returns-2 : tie.Need-returns-2 Inv-loop μ-loop
-returns-2 c = c .is-zero-by-bytes .ensures ∙ sym (c .before .before .loop .inv .1)
+returns : tie.Need-returns Inv-loop μ-loop
+returns c =
+    let l = c .before in
+    sym (l .loop .inv ∙ rw (Tests.none-left (l .before .args .s .now) (l .loop .i) (c .loop-test .left)) (whole (eqb (l .loop .joined) 0)))
+  where
+    whole : (b : Bool) → (b && true) ≡ b
+    whole true = refl
+    whole false = refl
 
 pub is-zero-spec : {M : Type 1} → statement M
 is-zero-spec =
@@ -43,12 +37,9 @@ is-zero-spec =
     (tie.spec
     Inv-loop
     μ-loop
-    loop-holds
+    (λ c. refl)
     (λ c. search needs)
-    (λ c κs. search needs)
-    returns
     (λ c. search needs)
     (λ c. search needs)
     loop-again
-    (λ c κs. search needs)
-    returns-2)
+    returns)
