@@ -1,7 +1,7 @@
 -- The theorems in the answers of the calls: what they tell, and when they are given.
 use mathlib.Core.Bool.{Bool, true, false, cond, _&&_}
 use mathlib.Core.List.{List, _++_}
-use mathlib.Core.Path.{_≡_, refl, ap, _∙_, sym}
+use mathlib.Core.Path.{_≡_, refl, _∙_, sym}
 use Prim.Native.Nat.{ℕ, _≤_}
 use native.Mathlib.Omega.{arith}
 use lib.Dec.{eqb, ltb}
@@ -14,11 +14,10 @@ use Rattle.octets.proofs.Ordered.{order-self, same-equal}
 use Rattle.keccak.specs.Collision.{Collision}
 use Rattle.chunk.specs.declared.addresses.AddressAnswer.the-variants as Address
 use Rattle.chunk.specs.declared.making.ProofMade.the-variants as Made
-use Rattle.chunk.specs.declared.checking.ProofChecked.{ProofChecked}
 use Rattle.chunk.specs.declared.checking.ProofChecked.the-variants as Checked
 use Rattle.chunk.specs.Tree.{addressOf}
 use Rattle.chunk.specs.Proof.{rebuilt, proofOf, checkHashed}
-use Rattle.chunk.specs.Answer.{addressed, anchoredAddressed, made, verdict, checked}
+use Rattle.chunk.specs.Answer.{addressed, anchoredAddressed, verdict, checked}
 use Rattle.chunk.proofs.Theorems.{address-length, honest-proof-length, honest-proof-passes, two-proofs-collide}
 
 -- ---- what is accepted
@@ -32,11 +31,6 @@ pub anchored-addressed-done : (anchor span chunk : List ℕ) → length anchor �
     → anchoredAddressed anchor span chunk ≡ record { answer = Address.Done; digest = addressOf anchor span chunk }
 unfolding anchoredAddressed
 anchored-addressed-done anchor span chunk a h k = rw (eq-eqb _ _ a) (addressed-done anchor span chunk h k)
-
-pub made-done : (span chunk : List ℕ) (index : ℕ) (proof : List ℕ) → length span ≡ 8 → length proof ≡ 264 → length chunk ≤ 4096 → index ≤ 127
-    → made span chunk index proof ≡ Made.Done
-unfolding made
-made-done span chunk index proof h p k i = rw (eq-eqb _ _ h, eq-eqb _ _ p, le-ltb _ _ k, le-ltb _ _ i)
 
 -- ---- what passes
 

@@ -21,16 +21,6 @@ among-left first second m h = Memᴰ·append-left second h
 pub among-right : (first second : List (List ℕ)) → Among second (first ++ second)
 among-right first second m h = Memᴰ·append-right first h
 
-pub collision-among : (few many : List (List ℕ)) → Among few many → Collision few → Collision many
-collision-among few many within c = record {
-  first = c .first;
-  second = c .second;
-  first-hashed = within (c .first) (c .first-hashed);
-  second-hashed = within (c .second) (c .second-hashed);
-  different = c .different;
-  one-digest = c .one-digest;
-}
-
 -- ---- equal, or a collision
 
 -- what a `do` goes by: a collision ends it

@@ -1,19 +1,11 @@
 -- When machines are at one.
-use mathlib.Core.Bool.{Bool, true, false}
+use mathlib.Core.Bool.{Bool, true}
 use mathlib.Core.Path.{_≡_}
-use Rattle.octets.specs.declared.order.Order.{Order}
-use Rattle.octets.specs.declared.order.Order.the-variants.{Less, Same, More}
 use Rattle.day.specs.declared.machine.Machine.{Machine}
 
 -- an answer that is yes where a thing holds, and only there
 abbrev pub Tells : Bool → Type 0 → Type 0
 Tells r P = (r ≡ true → P) × (P → r ≡ true)
-
--- whether neither of two strings comes before the other
-abbrev pub isSame : Order → Bool
-isSame Less = false
-isSame Same = true
-isSame More = false
 
 -- two machines' books have one digest
 abbrev pub OneBook : Machine → Machine → Type 0

@@ -3,7 +3,8 @@ use crate::machine::Machine;
 use octets::order::Order;
 use octets::order::compare;
 ghost use mathlib.Core.Path.{_≡_};
-ghost use Rattle.day.specs.Agree.{Tells, isSame, OneHash, OneBook, Agree};
+ghost use Rattle.octets.specs.Order.{isSame};
+ghost use Rattle.day.specs.Agree.{Tells, OneHash, OneBook, Agree};
 
 // Whether the four machines agree: all drew, and all drew the first one's hash.
 pub(crate) fn agree(a: Machine, b: Machine, c: Machine, d: Machine) -> bool

@@ -1,19 +1,15 @@
 -- Laws of edits.
-use mathlib.Core.Path.{_≡_, refl, sym, ap, _∙_}
+use mathlib.Core.Path.{_≡_, refl, sym}
 use mathlib.Core.Bool.{Bool, true, false, cond, _&&_}
 use mathlib.Core.List.{List, [], _∷_, _++_, append-assoc, append-nil}
-use Prim.Native.Nat.{ℕ, zero, suc, _+_, _-_, _^_, _≤_, _<_}
-use native.Mathlib.Nat.{add-zero, zero-add, suc-add, le-of-eq}
+use Prim.Native.Nat.{ℕ, zero, suc, _+_, _-_, _≤_, _<_}
+use native.Mathlib.Nat.{add-zero, zero-add, suc-add}
 use native.Mathlib.Omega.{arith}
 use lib.Dec.{leb}
-use lib.ListN.{length, take, drop, replicate, take-append-drop, length-append, length-take, length-drop, length-replicate, drop-of-length-le}
-use lib.Seq.{length-take-le, take-append-le, take-take, drop-drop, drop-at, take-append-seam, drop-append-seam, drop-append-add, take-add, take-nil}
+use lib.ListN.{length, take, drop, take-append-drop, length-append, length-take, length-drop}
+use lib.Seq.{length-take-le, take-append-le, take-take, drop-drop, drop-at, take-append-seam, drop-append-add, take-add, take-nil}
 use borrow.Author.Tests.{le-leb, lt-leb, leb-true}
-use Rattle.octets.specs.Bytes.{Bytes}
-use Rattle.octets.specs.Number.{big, bigAt, bytesOf}
 use Rattle.octets.specs.Moving.{over, placed, lowered, raised, inserted}
-use Rattle.octets.proofs.Bytes.{bytes-append, bytes-take, bytes-drop}
-use Rattle.octets.proofs.Numbers.{length-bytesOf, big-bytesOf, bigAt-fits}
 
 -- parts of a list
 
@@ -32,16 +28,6 @@ module _ (s : List ℕ) (at : ℕ) (v : List ℕ) where
   unfolding over
   length-over h = simp (length-append, length-take, length-drop) (omega arith)
 
-  pub take-over : (n : ℕ) → n ≤ at → at ≤ length s → take n (over s at v) ≡ take n s
-  unfolding over
-  take-over n h k =
-      let t : length (take at s) ≡ at = length-take-le at s k in
-      rw (append-assoc, take-append-le n (take at s) (v ++ drop (at + length v) s) (omega arith), take-take n at s h)
-
-  pub part-over : at ≤ length s → take (length v) (drop at (over s at v)) ≡ v
-  unfolding over
-  part-over k = rw (append-assoc, drop-at (take at s) (v ++ drop (at + length v) s) at (length-take-le at s k), take-append-seam)
-
   pub drop-over : (n : ℕ) → at + length v ≤ n → at ≤ length s → drop n (over s at v) ≡ drop n s
   unfolding over
   drop-over n h k =
@@ -50,19 +36,6 @@ module _ (s : List ℕ) (at : ℕ) (v : List ℕ) where
       let e : length head + (n - (at + length v)) ≡ n = omega arith in
       let f : at + length v + (n - (at + length v)) ≡ n = omega arith in
       rw (← e, drop-append-add head (drop (at + length v) s) (n - (at + length v)), drop-drop, f, e)
-
-  -- a part that ends before what is written
-  pub part-before : (k n : ℕ) → k + n ≤ at → at ≤ length s → take n (drop k (over s at v)) ≡ take n (drop k s)
-  part-before k n h hs = sym (part-of-take k n (over s at v)) ∙ ap (drop k) (take-over (k + n) h hs) ∙ part-of-take k n s
-
-  -- and one that starts behind it
-  pub part-behind : (k n : ℕ) → at + length v ≤ k → at ≤ length s → take n (drop k (over s at v)) ≡ take n (drop k s)
-  part-behind k n h hs = ap (take n) (drop-over k h hs)
-
-  pub bytes-over : Bytes s → Bytes v → Bytes (over s at v)
-  unfolding over
-  bytes-over hs hv =
-      bytes-append (take at s ++ v) (drop (at + length v) s) (bytes-append (take at s) v (bytes-take at s hs) hv) (bytes-drop (at + length v) s hs)
 
 -- a part put where it stands
 pub over-self : (s : List ℕ) (at n : ℕ) → at + n ≤ length s → over s at (take n (drop at s)) ≡ s
@@ -79,30 +52,6 @@ unfolding over
 over-middle p q r v e =
     let ends : length (p ++ q) ≡ length p + length v = simp length-append (omega arith) in
     rw (drop-at (p ++ q) r (length p + length v) ends, append-assoc p q r, take-append-seam p (q ++ r))
-
--- what a callee left in a lent part, seen in the whole
-pub over-lent : (s t v : List ℕ) (at : ℕ) → at + length v ≤ length s → t ≡ over (take (length v) (drop at s)) 0 v → take at s ++ (t ++ drop (length v) (drop at s)) ≡ over s at v
-unfolding over
-over-lent s t v at h e =
-    let k : length (take (length v) (drop at s)) ≡ length v = part-length s at (length v) h in
-    let same : t ≡ v = e ∙ rw (zero-add, drop-of-length-le (take (length v) (drop at s)) (le-of-eq k)) (append-nil v) in
-    rw (same, drop-drop (length v) at s) (sym (append-assoc (take at s) v (drop (at + length v) s)))
-
--- a number that is written is read there
-pub bigAt-over : (width : ℕ) (s : List ℕ) (at n : ℕ) → at + width ≤ length s → n < 256 ^ width → bigAt width (over s at (bytesOf width n)) at ≡ n
-bigAt-over width s at n h hn =
-    let v = bytesOf width n in
-    let w : length v ≡ width = length-bytesOf width n in
-    let fits : at + length v ≤ length s = omega arith in
-    let there : at + width ≤ length (over s at v) = omega (arith, length-over s at v fits) in
-    bigAt-fits width (over s at v) at there
-    ∙ ap (λ (k : ℕ). big (take k (drop at (over s at v)))) (sym w)
-    ∙ ap big (part-over s at v (omega arith))
-    ∙ big-bytesOf width n hn
-
-pub bigAt-same : (width : ℕ) (s t : List ℕ) (at : ℕ) → length s ≡ length t → take width (drop at s) ≡ take width (drop at t) → bigAt width s at ≡ bigAt width t at
-unfolding bigAt
-bigAt-same width s t at e h = rw (e, h)
 
 -- the edits: where they fit, where they do not, and what holds either way
 
@@ -130,16 +79,6 @@ module _ (s : List ℕ) (at : ℕ) (v : List ℕ) where
   pub length-placed : length (placed s at v) ≡ length s
   unfolding placed
   length-placed = either (λ l. length l ≡ length s) (leb (at + length v) (length s)) (over s at v) s (λ h. length-over s at v (leb-true _ _ h)) refl
-
-  pub bytes-placed : Bytes s → Bytes v → Bytes (placed s at v)
-  unfolding placed
-  bytes-placed hs hv = either Bytes (leb (at + length v) (length s)) (over s at v) s (λ h. bytes-over s at v hs hv) hs
-
-pub cleared-fits : (s : List ℕ) (at n : ℕ) → at + n ≤ length s → placed s at (replicate n 0) ≡ over s at (replicate n 0)
-cleared-fits s at n h = placed-fits s at (replicate n 0) (omega (arith, length-replicate {A = ℕ} n 0))
-
-pub written-fits : (s : List ℕ) (at width n : ℕ) → at + width ≤ length s → placed s at (bytesOf width n) ≡ over s at (bytesOf width n)
-written-fits s at width n h = placed-fits s at (bytesOf width n) (omega (arith, length-bytesOf width n))
 
 module _ (s : List ℕ) (from to n : ℕ) where
   pub lowered-fits : to ≤ from → from + n ≤ length s → lowered s from to n ≡ over s to (take n (drop from s))
@@ -177,14 +116,6 @@ module _ (s : List ℕ) (at end n : ℕ) where
   pub raised-not : at ≤ end → length s < end + n → raised s at end n ≡ s
   unfolding raised
   raised-not h k = rw (le-leb _ _ h, lt-leb _ _ k)
-
-  pub length-raised : length (raised s at end n) ≡ length s
-  unfolding raised
-  length-raised =
-      let v = take (end - at) (drop at s) in
-      fitting (λ l. length l ≡ length s) at end (end + n) (length s) (over s (at + n) v) s
-      (λ f g. length-over s (at + n) v (omega (arith, part-length s at (end - at) (omega arith))))
-      refl
 
 module _ (s : List ℕ) (at end : ℕ) (v : List ℕ) where
   pub inserted-fits : at ≤ end → end + length v ≤ length s → inserted s at end v ≡ take at s ++ v ++ take (end - at) (drop at s) ++ drop (end + length v) s
@@ -225,15 +156,3 @@ module _ (s : List ℕ) (at end : ℕ) (v : List ℕ) where
       fitting (λ l. length l ≡ length s) at end (end + length v) (length s) (take at s ++ v ++ take (end - at) (drop at s) ++ drop (end + length v) s) s
       (λ f g. simp (length-append, length-take, length-drop) (omega arith))
       refl
-
--- v put in between p and q, over what stood free behind q
-pub inserted-between : (p q free r v : List ℕ) → length v ≡ length free → inserted (p ++ q ++ free ++ r) (length p) (length p + length q) v ≡ p ++ v ++ q ++ r
-inserted-between p q free r v e =
-    let s = p ++ q ++ free ++ r in
-    let whole : length s ≡ length p + length q + length free + length r = simp length-append (omega arith) in
-    let ends : length (p ++ q ++ free) ≡ length p + length q + length v = simp length-append (omega arith) in
-    let count : length p + length q - length p ≡ length q = omega arith in
-    let before : take (length p) s ≡ p = simp append-assoc (take-append-seam p (q ++ (free ++ r))) in
-    let behind : drop (length p) s ≡ q ++ (free ++ r) = simp append-assoc (drop-append-seam p (q ++ (free ++ r))) in
-    inserted-fits s (length p) (length p + length q) v (omega arith) (omega arith)
-    ∙ rw (count, before, behind, take-append-seam q (free ++ r), drop-at (p ++ q ++ free) r (length p + length q + length v) ends)

@@ -1,17 +1,15 @@
 -- Laws of big-endian numbers.
 use mathlib.Core.Path.{_≡_, refl, sym, ap, _∙_}
-use mathlib.Core.Bool.{Bool, true, false, cond}
 use mathlib.Core.List.{List, [], _∷_, _++_, reverse, reverse-reverse}
 use Prim.Native.Nat.{ℕ, zero, suc, _+_, _*_, _/_, _%_, _^_, _≤_, _<_}
-use native.Mathlib.Nat.{zero-add, zero-mul, add-mul, mul-assoc, add-assoc, pow-suc, mul-le-mul-right, one-le-pow}
+use native.Mathlib.Nat.{zero-add, zero-mul, add-mul, mul-assoc, add-assoc, pow-suc, mul-le-mul-right}
 use native.Mathlib.Omega.{arith}
 use lib.Pow.{pow-add}
-use lib.ListN.{length, take, drop, length-append, length-take, length-drop, length-reverse}
-use lib.Dec.{leb}
-use borrow.Author.Tests.{le-leb, lt-leb, leb-true}
+use lib.ListN.{length, take, drop, length-append, length-reverse}
+use borrow.Author.Tests.{le-leb, lt-leb}
 use Rattle.octets.specs.Bytes.{Bytes}
 use Rattle.octets.specs.Number.{big, little, bigAt, bytesOf}
-use Rattle.octets.proofs.Bytes.{bytes-append, bytes-take, bytes-drop, bytes-reverse}
+use Rattle.octets.proofs.Bytes.{bytes-append, bytes-reverse}
 
 pub big-nil : big [] ≡ 0
 unfolding big
@@ -93,13 +91,3 @@ bigAt-fits width s at h = rw (le-leb _ _ h)
 pub bigAt-not : (width : ℕ) (s : List ℕ) (at : ℕ) → length s < at + width → bigAt width s at ≡ 0
 unfolding bigAt
 bigAt-not width s at h = rw (lt-leb _ _ h)
-
-pub bigAt-lt : (width : ℕ) (s : List ℕ) (at : ℕ) → Bytes s → bigAt width s at < 256 ^ width
-unfolding bigAt
-bigAt-lt width s at h = go (leb (at + width) (length s)) (leb-true (at + width) (length s))
-  where
-    go : (b : Bool) → (b ≡ true → at + width ≤ length s) → cond b (big (take width (drop at s))) 0 < 256 ^ width
-    go true f =
-        let count : length (take width (drop at s)) ≡ width = simp (length-take, length-drop) (omega (arith, f refl)) in
-        rw count at (big-lt (take width (drop at s)) (bytes-take width (drop at s) (bytes-drop at s h)))
-    go false f = one-le-pow width 256 (omega arith)

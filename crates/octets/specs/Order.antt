@@ -1,6 +1,6 @@
 -- The byte order of two strings.
 use Prim.Native.Nat.{ℕ}
-use mathlib.Core.Bool.{cond}
+use mathlib.Core.Bool.{Bool, true, false, cond}
 use mathlib.Core.List.{List, [], _∷_}
 use lib.Dec.{ltb}
 use Rattle.octets.specs.declared.order.Order.{Order}
@@ -21,6 +21,17 @@ abbrev pub turned : Order → Order
 turned Less = More
 turned Same = Same
 turned More = Less
+
+-- an order as a test
+abbrev pub isLess : Order → Bool
+isLess Less = true
+isLess Same = false
+isLess More = false
+
+abbrev pub isSame : Order → Bool
+isSame Less = false
+isSame Same = true
+isSame More = false
 
 -- the first byte that differs decides, and a string that ends first is the lesser
 unfoldable pub byteOrder : List ℕ → List ℕ → Order

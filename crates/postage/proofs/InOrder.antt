@@ -8,11 +8,11 @@ use native.Mathlib.Omega.{arith}
 use lib.Dec.{eqb, ltb}
 use lib.ListN.{length}
 use borrow.Author.Tests.{lt-ltb, ltb-true, eq-eqb, eqb-true}
-use Rattle.octets.specs.Order.{byteOrder}
+use Rattle.octets.specs.Order.{byteOrder, isSame}
 use Rattle.octets.proofs.Ordered.{order-self, same-equal}
 use Rattle.postage.specs.declared.rules.StampAnswer.{StampAnswer}
 use Rattle.postage.specs.declared.rules.StampAnswer.the-variants.{Passes, BadList, WrongLength, NoBatch, OtherBucket, IndexPast, NotOwner}
-use Rattle.postage.specs.Batch.{Listed, isSame, batchAt, records, wellListed, find, ownerOf, depthOf}
+use Rattle.postage.specs.Batch.{Listed, batchAt, records, wellListed, find, ownerOf, depthOf}
 use Rattle.postage.specs.Stamp.{stampLength, batchIn, bucketIn, indexIn, bucketOf, slotsOf}
 use Rattle.postage.specs.Rules.{rule, inBucket, inSlots, isOwner, rules, checked}
 use Rattle.postage.specs.InOrder.{Lengths, Kept, Given}

@@ -10,9 +10,9 @@ use lib.Seq.{drop-drop}
 use borrow.Author.Tests.{le-leb, leb-true, eq-eqb, eqb-true}
 use Rattle.octets.specs.declared.order.Order.{Order}
 use Rattle.octets.specs.declared.order.Order.the-variants.{Less, Same, More}
-use Rattle.octets.specs.Order.{byteOrder}
+use Rattle.octets.specs.Order.{byteOrder, isLess, isSame}
 use Rattle.octets.proofs.Ordered.{less-trans}
-use Rattle.postage.specs.Batch.{recordLength, recordFrom, idOf, depthOf, Fit, WellListed, isLess, isSame, records, fit, below, ordered, wellListed}
+use Rattle.postage.specs.Batch.{recordLength, recordFrom, idOf, depthOf, Fit, WellListed, records, fit, below, ordered, wellListed}
 use Rattle.postage.proofs.Records.{records-short, records-more, length-records, records-at}
 
 -- tests

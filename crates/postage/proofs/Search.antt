@@ -8,9 +8,9 @@ use native.Mathlib.Nat.{eq-or-lt-of-le}
 use native.Mathlib.Omega.{arith}
 use lib.ListN.{length, getD}
 use Rattle.octets.specs.declared.order.Order.the-variants.{Less, More}
-use Rattle.octets.specs.Order.{byteOrder, turned}
+use Rattle.octets.specs.Order.{byteOrder, turned, isSame}
 use Rattle.octets.proofs.Ordered.{compared, less-not-same, less-trans, order-self, same-equal, order-turned}
-use Rattle.postage.specs.Batch.{idOf, count, batchAt, Whole, WellListed, Listed, isSame, records, find}
+use Rattle.postage.specs.Batch.{idOf, count, batchAt, Whole, WellListed, Listed, records, find}
 use Rattle.postage.proofs.Records.{length-records, records-at, length-batchAt}
 use Rattle.postage.proofs.Listed.{false-not-true, is-same}
 

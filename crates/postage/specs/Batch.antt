@@ -1,13 +1,12 @@
 -- The batch list: records one after another, each id (32), owner (20), depth (1).
 use mathlib.Core.Path.{_≡_}
-use mathlib.Core.Bool.{Bool, true, false, cond, _&&_}
+use mathlib.Core.Bool.{Bool, true, cond, _&&_}
 use mathlib.Core.List.{List, [], _∷_}
 use Prim.Native.Nat.{ℕ, zero, suc, _*_, _/_, _%_, _≤_, _<_}
 use lib.Dec.{eqb, leb}
 use lib.ListN.{length, getD, take, drop}
-use Rattle.octets.specs.declared.order.Order.{Order}
-use Rattle.octets.specs.declared.order.Order.the-variants.{Less, Same, More}
-use Rattle.octets.specs.Order.{byteOrder}
+use Rattle.octets.specs.declared.order.Order.the-variants.{Less}
+use Rattle.octets.specs.Order.{byteOrder, isLess, isSame}
 
 -- the one place where a record's length stands
 abbrev pub recordLength : ℕ
@@ -58,16 +57,6 @@ abbrev pub Listed : List ℕ → List ℕ → Type 0
 Listed list id = (i : ℕ) × (i < count list) × (idOf (batchAt list i) ≡ id)
 
 -- ---- the same as a test
-
-abbrev pub isLess : Order → Bool
-isLess Less = true
-isLess Same = false
-isLess More = false
-
-abbrev pub isSame : Order → Bool
-isSame Less = false
-isSame Same = true
-isSame More = false
 
 -- the first n records of a list
 unfoldable pub cut : ℕ → List ℕ → List (List ℕ)

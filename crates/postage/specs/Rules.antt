@@ -4,10 +4,10 @@ use mathlib.Core.List.{List}
 use Prim.Native.Nat.{ℕ}
 use lib.Dec.{eqb, ltb}
 use lib.ListN.{length}
-use Rattle.octets.specs.Order.{byteOrder}
+use Rattle.octets.specs.Order.{byteOrder, isSame}
 use Rattle.postage.specs.declared.rules.StampAnswer.{StampAnswer}
 use Rattle.postage.specs.declared.rules.StampAnswer.the-variants.{Passes, BadList, WrongLength, NoBatch, OtherBucket, IndexPast, NotOwner}
-use Rattle.postage.specs.Batch.{records, wellListed, find, ownerOf, depthOf, isSame}
+use Rattle.postage.specs.Batch.{records, wellListed, find, ownerOf, depthOf}
 use Rattle.postage.specs.Stamp.{stampLength, batchIn, bucketIn, indexIn, bucketOf, slotsOf}
 
 -- document 01's number for each answer

@@ -9,7 +9,7 @@ use lib.ListN.{length, getD, take, drop, set}
 use lib.Seq.{take-all, length-take-le}
 use native.Mathlib.Nat.{le-refl, eq-or-lt-of-le}
 use Rattle.octets.specs.declared.order.Order.the-variants.{Less, Same, More}
-use Rattle.octets.specs.Order.{byteOrder, turned}
+use Rattle.octets.specs.Order.{byteOrder, turned, isLess}
 use Rattle.octets.specs.Number.{big}
 use Rattle.octets.proofs.Bytes.{bytes-take}
 use Rattle.octets.proofs.Numbers.{big-injective}
@@ -18,7 +18,7 @@ use Rattle.settling.specs.Book.{good}
 use Rattle.settling.proofs.Places.{each-at}
 use Rattle.settling.proofs.Steps.{step-far, step-very, step-lower, step-replaced, step-added}
 use Rattle.reserve.specs.Record.{slot, nearOf, Fitting}
-use Rattle.reserve.specs.Rank.{rankOrder, isLess, beats}
+use Rattle.reserve.specs.Rank.{rankOrder, beats}
 use Rattle.reserve.specs.Order.{rank-same, rank-turned}
 use Rattle.reserve.specs.Shape.{shapeIn}
 use Rattle.reserve.specs.Layout.{depthIn, overlayIn, capacityIn, countIn, recordsIn}

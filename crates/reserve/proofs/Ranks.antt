@@ -9,7 +9,7 @@ use lib.Seq.{take-add, take-all, drop-drop, length-take-le}
 use borrow.Author.Tests.{eq-eqb, ne-eqb}
 use Rattle.octets.specs.declared.order.Order.{Order}
 use Rattle.octets.specs.declared.order.Order.the-variants.{Less, Same, More}
-use Rattle.octets.specs.Order.{byteOrder, andThen, turned}
+use Rattle.octets.specs.Order.{byteOrder, andThen, turned, isLess}
 use Rattle.octets.specs.Bytes.{Bytes}
 use Rattle.octets.specs.Number.{big}
 use Rattle.octets.proofs.Bytes.{bytes-take}
@@ -17,7 +17,7 @@ use Rattle.octets.proofs.Numbers.{big-injective}
 use Rattle.octets.proofs.Ordered.{order-self, same-equal}
 use Rattle.reserve.specs.declared.rank.Choice.the-variants.{First, Second, Neither}
 use Rattle.reserve.specs.Record.{slot, timeIn, addressIn, signatureIn}
-use Rattle.reserve.specs.Rank.{rankOrder, isLess, beats}
+use Rattle.reserve.specs.Rank.{rankOrder, beats}
 use Rattle.reserve.specs.Order.{rank-turned}
 use Rattle.reserve.specs.Choice.{choice, preferred}
 

@@ -11,7 +11,7 @@ use lib.ListN.{length, drop, replicate, length-drop}
 use borrow.Author.Tests.{leb-true, le-leb, ltb-true, lt-ltb, eqb-true, eq-eqb, ne-eqb}
 use Rattle.octets.specs.declared.order.Order.{Order}
 use Rattle.octets.specs.declared.order.Order.the-variants.{Less, Same, More}
-use Rattle.octets.specs.Order.{byteOrder}
+use Rattle.octets.specs.Order.{byteOrder, isSame}
 use Rattle.octets.specs.Bytes.{Bytes}
 use Rattle.octets.proofs.Bytes.{bytes-drop}
 use Rattle.octets.proofs.Ordered.{same-equal, order-self}
@@ -19,7 +19,7 @@ use Rattle.nearness.specs.Bits.{sharedBits}
 use Rattle.settling.specs.Meaning.{Each}
 use Rattle.reserve.specs.Record.{addressIn, Fitting}
 use Rattle.reserve.specs.Layout.{mark, markIn, versionIn, stateIn, startingIn, depthIn, overlayIn, capacityIn, countIn, recordsIn, Rising, WellFormed}
-use Rattle.reserve.specs.Check.{isSame, labelled, sized, levelled, stands, allStand, rises, zeros, wellFormed}
+use Rattle.reserve.specs.Check.{labelled, sized, levelled, stands, allStand, rises, zeros, wellFormed}
 use Rattle.reserve.proofs.Truths.{both, joined}
 use Rattle.reserve.proofs.Laid.{Sized}
 use Rattle.reserve.proofs.Cuts.{each-cut, bytes-cut}

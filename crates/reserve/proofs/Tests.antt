@@ -12,13 +12,12 @@ use lib.Dec.{eqb, ltb}
 use lib.ListN.{length, getD, take, drop, drop-of-length-le}
 use lib.Seq.{drop-cons, take-take}
 use borrow.Author.Tests.{eq-eqb, ne-eqb, eqb-true, eqb-false, le-ltb, lt-ltb}
-use Rattle.octets.specs.Order.{byteOrder, numberOrder}
+use Rattle.octets.specs.Order.{byteOrder, numberOrder, isLess}
 use Rattle.octets.specs.Bytes.{Bytes}
 use Rattle.octets.specs.Number.{big}
 use Rattle.octets.proofs.Bytes.{bytes-take, bytes-drop}
 use Rattle.octets.proofs.Ordered.{compared, number-less, number-same, number-more, order-number}
 use Rattle.octets.proofs.Edits.{part-length}
-use Rattle.reserve.specs.Rank.{isLess}
 use Rattle.reserve.specs.Record.{slot}
 use Rattle.reserve.specs.Layout.{cut}
 use Rattle.reserve.specs.Check.{stands, allStand, rises, zeros}

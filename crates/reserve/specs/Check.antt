@@ -1,22 +1,15 @@
 -- Being well formed as a test that computes; `tested` in proofs/ shows that it says what Layout's list says.
-use mathlib.Core.Bool.{Bool, true, false, cond, _&&_, _||_}
+use mathlib.Core.Bool.{Bool, true, cond, _&&_, _||_}
 use mathlib.Core.List.{List, [], _∷_}
 use Prim.Native.Nat.{ℕ, _+_, _*_, _^_}
 use lib.Dec.{eqb, leb, ltb}
 use lib.ListN.{length, drop}
-use Rattle.octets.specs.declared.order.Order.{Order}
-use Rattle.octets.specs.declared.order.Order.the-variants.{Less, Same, More}
-use Rattle.octets.specs.Order.{byteOrder}
+use Rattle.octets.specs.Order.{byteOrder, isSame}
 use Rattle.nearness.specs.Bits.{sharedBits}
 use Rattle.reserve.specs.declared.check.BookAnswer.{BookAnswer}
 use Rattle.reserve.specs.declared.check.BookAnswer.the-variants.{WellFormed, NotWellFormed}
 use Rattle.reserve.specs.Record.{slot, bucketIn, indexIn, addressIn, bucketOf}
 use Rattle.reserve.specs.Layout.{mark, markIn, versionIn, stateIn, startingIn, depthIn, overlayIn, capacityIn, countIn, recordsIn}
-
-abbrev pub isSame : Order → Bool
-isSame Less = false
-isSame Same = true
-isSame More = false
 
 -- mark and version
 unfoldable pub labelled : List ℕ → Bool

@@ -6,11 +6,11 @@ use mathlib.Core.List.{List}
 use Prim.Native.Nat.{ℕ}
 use Rattle.octets.specs.declared.order.Order.{Order}
 use Rattle.octets.specs.declared.order.Order.the-variants.{Less, Same, More}
-use Rattle.octets.specs.Order.{byteOrder, andThen, turned}
+use Rattle.octets.specs.Order.{byteOrder, andThen, turned, isLess}
 use Rattle.octets.proofs.Ordered.{order-self, order-turned, same-equal, less-trans, then-less, then-same, then-turned}
 use Rattle.settling.specs.Rank.{Rank}
 use Rattle.reserve.specs.Record.{slot, timeIn, addressIn, signatureIn}
-use Rattle.reserve.specs.Rank.{rankOrder, isLess, beats}
+use Rattle.reserve.specs.Rank.{rankOrder, beats}
 
 -- a comparison that orders: records that it calls the same stand alike to every third
 record Orders (f : List ℕ → List ℕ → Order) : Type 0 where

@@ -1,10 +1,9 @@
 -- Rank in one slot: "later time first; at one time the smaller address; then the smaller signature bytes."
-use mathlib.Core.Bool.{Bool, true, false}
+use mathlib.Core.Bool.{Bool}
 use mathlib.Core.List.{List}
 use Prim.Native.Nat.{ℕ}
 use Rattle.octets.specs.declared.order.Order.{Order}
-use Rattle.octets.specs.declared.order.Order.the-variants.{Less, Same, More}
-use Rattle.octets.specs.Order.{byteOrder, andThen, turned}
+use Rattle.octets.specs.Order.{byteOrder, andThen, turned, isLess}
 use Rattle.reserve.specs.Record.{timeIn, addressIn, signatureIn}
 
 -- Less where a ranks higher than b. The last comparison never decides between two records of one slot, which differ in time, address or
@@ -15,11 +14,6 @@ rankOrder a b =
     (andThen (byteOrder (addressIn a) (addressIn b))
     (andThen (byteOrder (signatureIn a) (signatureIn b))
     (byteOrder a b)))
-
-abbrev pub isLess : Order → Bool
-isLess Less = true
-isLess Same = false
-isLess More = false
 
 -- a ranks higher than b
 unfoldable pub beats : List ℕ → List ℕ → Bool

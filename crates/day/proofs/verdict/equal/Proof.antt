@@ -7,9 +7,9 @@ use native.Mathlib.Omega.{arith}
 use borrow.Author.Needs.{needs}
 use Rattle.octets.specs.declared.order.Order.{Order}
 use Rattle.octets.specs.declared.order.Order.the-variants.{Less, Same, More}
-use Rattle.octets.specs.Order.{byteOrder}
+use Rattle.octets.specs.Order.{byteOrder, isSame}
 use Rattle.octets.proofs.Ordered.{order-self, same-equal, less-not-same, more-not-same}
-use Rattle.day.specs.Agree.{Tells, isSame}
+use Rattle.day.specs.Agree.{Tells}
 use Rattle.day.proofs.verdict.equal.Statement.{statement}
 use Rattle.day.proofs.verdict.equal.Tie as tie
 

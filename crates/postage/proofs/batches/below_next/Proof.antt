@@ -6,8 +6,8 @@ use Prim.Native.Nat.{ℕ, _+_, _-_, _≤_}
 use lib.ListN.{length, take, drop}
 use native.Mathlib.Omega.{arith}
 use Rattle.octets.specs.declared.order.Order.{Order}
-use Rattle.octets.specs.Order.{byteOrder}
-use Rattle.postage.specs.Batch.{recordLength, recordFrom, records, below, isLess}
+use Rattle.octets.specs.Order.{byteOrder, isLess}
+use Rattle.postage.specs.Batch.{recordLength, recordFrom, records, below}
 use Rattle.postage.proofs.Records.{id-part}
 use Rattle.postage.proofs.Listed
 use borrow.Author.Needs.{needs}

@@ -1,7 +1,7 @@
 -- Each answer is that of the comparison.
 use mathlib.Core.Path.{sym, ap, _∙_}
 use borrow.Author.Needs.{needs}
-use Rattle.postage.specs.Batch.{isSame}
+use Rattle.octets.specs.Order.{isSame}
 use Rattle.postage.specs.Rules.{isOwner}
 use Rattle.postage.proofs.rules.is_owner.Statement.{statement}
 use Rattle.postage.proofs.rules.is_owner.Tie as tie

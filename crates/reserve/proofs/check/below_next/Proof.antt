@@ -7,10 +7,9 @@ use native.Mathlib.Omega.{arith}
 use borrow.Author.Needs.{needs}
 use lib.ListN.{length, take, drop}
 use Rattle.octets.specs.declared.order.Order.{Order}
-use Rattle.octets.specs.Order.{byteOrder}
+use Rattle.octets.specs.Order.{byteOrder, isLess}
 use Rattle.octets.specs.Bytes.{Bytes}
 use Rattle.octets.proofs.Bytes.{bytes-known}
-use Rattle.reserve.specs.Rank.{isLess}
 use Rattle.reserve.specs.Layout.{cut}
 use Rattle.reserve.specs.Check.{rises}
 use Rattle.reserve.proofs.Tests

@@ -5,11 +5,12 @@ use Prim.Native.Nat.{ℕ}
 use native.Mathlib.Omega.{arith}
 use borrow.Author.Needs.{needs}
 use lib.Dec.{eqb}
+use Rattle.octets.specs.Order.{isSame}
 use Rattle.octets.specs.declared.order.Order.{Order}
 use Rattle.octets.specs.declared.order.Order.the-variants.{Less, Same, More}
 use Rattle.octets.proofs.Numbers.{bigAt-fits}
 use Rattle.reserve.specs.Layout.{versionIn}
-use Rattle.reserve.specs.Check.{isSame, labelled}
+use Rattle.reserve.specs.Check.{labelled}
 use Rattle.reserve.proofs.check.is_labelled.Statement.{statement}
 use Rattle.reserve.proofs.check.is_labelled.Tie as tie
 use Rattle.reserve.proofs.check.is_labelled.Reads as reads
