@@ -5,3 +5,4 @@ pub mod Ordered
 pub mod Edits
 pub mod Joins
 pub mod Turns
+pub mod Pieces

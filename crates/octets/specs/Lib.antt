@@ -3,4 +3,5 @@ pub mod Bytes
 pub mod Order
 pub mod Number
 pub mod Moving
+pub mod Pieces
 pub mod Determined
