@@ -10,7 +10,7 @@ use native.Mathlib.Numerals.{add-one}
 use native.Mathlib.Omega.{arith}
 use borrow.Author.Tests.{eq-eqb, ne-eqb, lt-ltb, le-ltb}
 use lib.ListN.{getD, set, take, drop, length, length-set, length-take, length-drop, take-append-drop}
-use lib.Seq.{take-suc, take-add, length-take-le}
+use lib.Seq.{take-suc, take-add, take-all, length-take-le}
 use Rattle.octets.specs.Bytes.{Bytes}
 use Rattle.octets.proofs.Bytes.{bytes-take, bytes-drop}
 use Rattle.permutation.specs.Permutation.{permute}
@@ -173,14 +173,24 @@ word-begins s t p k h e l et =
     ap (λ (x : Sponge). x .place) et ∙ r .1 ∙ ap (λ (m : ℕ). (s .place + m) % 136) (length-take-le k p l) in
     (subst Sound (sym et) (r .0), omega arith)
 
-pub three-parts : (s t u v : Sponge) (p : List ℕ) (k n : ℕ) → k ≤ n → t ≡ absorbed s (take k p) → u ≡ absorbed t (take (n - k) (drop k p)) → v ≡ absorbed u (drop n p)
+pub three-parts : (s t u v : Sponge) (p first middle rest : List ℕ) → t ≡ absorbed s first → u ≡ absorbed t middle → v ≡ absorbed u rest → (first ++ middle) ++ rest ≡ p
     → v ≡ absorbed s p
-three-parts s t u v p k n h et eu ev =
-    let e : k + (n - k) ≡ n = omega arith in
+three-parts s t u v p first middle rest et eu ev e =
     ev
-    ∙ ap (λ (x : Sponge). absorbed x (drop n p)) (eu ∙ absorbed-more s t p k (n - k) et ∙ ap (λ (m : ℕ). absorbed s (take m p)) e)
-    ∙ sym (absorbed-append s (take n p) (drop n p))
-    ∙ ap (absorbed s) (take-append-drop n p)
+    ∙ ap (λ (x : Sponge). absorbed x rest) (eu ∙ ap (λ (x : Sponge). absorbed x middle) et ∙ sym (absorbed-append s first middle))
+    ∙ sym (absorbed-append s (first ++ middle) rest)
+    ∙ ap (absorbed s) e
+
+-- what stands in p from i up to j
+abbrev pub stretch : List ℕ → ℕ → ℕ → List ℕ
+stretch p i j = take (j - i) (drop i p)
+
+-- three stretches, each begun where the last one ends, are all of p
+pub stretches : (p : List ℕ) (k n : ℕ) → k ≤ n → (stretch p 0 k ++ stretch p k n) ++ stretch p n (length p) ≡ p
+stretches p k n h =
+    let z : k - 0 ≡ k = omega arith in
+    let e : k + (n - k) ≡ n = omega arith in
+    rw (z, ← take-add k (n - k) p, e, take-all (length p - n) (drop n p) (omega (arith, length-drop n p))) (take-append-drop n p)
 
 -- what `finish` leaves in the lanes, where p is 0x01 at its place
 pub padded-lanes : (s : Sponge) (p : ℕ) → p ≡ 0x01 * 2 ^ (8 * (s .place % 8)) % 2 ^ 64

@@ -4,7 +4,7 @@ use crate::words::placed;
 use crate::words::word_at;
 use permutation::permute;
 ghost use mathlib.Core.Path.{_≡_};
-ghost use Prim.Native.Nat.{_<_, _%_};
+ghost use Prim.Native.Nat.{_-_, _%_, _<_, _≤_};
 ghost use lib.ListN.{length};
 ghost use Rattle.keccak.specs.Sponge.{Sound, fresh, usable, absorbed, finished};
 
@@ -94,7 +94,7 @@ impl Sponge {
         if part.len() < lead {
             return s.bytes(part);
         }
-        let end = part.len() - (part.len() - lead) % 8;
+        let end = words_end(lead, part.len());
         let begun = s.bytes(&part[0..lead]);
         let whole = begun.words(&part[lead..end]);
         whole.bytes(&part[end..])
@@ -112,4 +112,12 @@ impl Sponge {
         lanes[16] = lanes[16] ^ 0x8000000000000000;
         digest(permute(lanes))
     }
+}
+
+// Where whole words end in a part of which the first `lead` bytes fill the word begun. Any such end is right: what is behind it goes in by bytes.
+fn words_end(lead: usize, length: usize) -> usize
+    requires { ⌜ lead ≤ length ⌝ }
+    ensures { λ r. ⌜ (lead ≤ r) × (r ≤ length) × ((r - lead) % 8 ≡ 0) ⌝ }
+{
+    length - (length - lead) % 8
 }

@@ -7,7 +7,7 @@ use lib.ListN.{length, take, drop, length-take, length-drop}
 use lib.Seq.{take-all}
 use Rattle.keccak.specs.declared.sponge.Sponge.{Sponge}
 use Rattle.keccak.specs.Sponge.{absorbed}
-use Rattle.keccak.proofs.Step.{word-begins, three-parts, absorbed-in}
+use Rattle.keccak.proofs.Step.{word-begins, three-parts, stretches, absorbed-in}
 use borrow.Author.Needs.{needs}
 use Rattle.keccak.proofs.sponge.Sponge.absorb.Statement.{statement}
 use Rattle.keccak.proofs.sponge.Sponge.absorb.Tie as tie
@@ -26,11 +26,8 @@ returns c =
     let k = c .before .before .before in
     c .bytes .ensures ∙ ap (λ (s : Sponge). absorbed s (now (k .before .before .args .part))) (k .usable .ensures .0)
 
-sub-end : tie.Need-sub-end
-sub-end c = search needs
-
-sub-end-2 : tie.Need-sub-end-2
-sub-end-2 c = search needs
+words-end-requires : tie.Need-words-end-requires
+words-end-requires c κs = search needs
 
 sub-bytes : tie.Need-sub-bytes
 sub-bytes c = search needs
@@ -55,12 +52,12 @@ part-words-end c = search needs
 
 words-requires : tie.Need-words-requires
 words-requires c κs =
-    let e = c .before .before .before in
-    let u = e .before .before in
+    let e = c .before .before .before .words-end in
+    let u = c .before .before .before .before .before .before in
     let p = now (u .before .before .args .part) in
     let s = u .usable .result in
     let k : ℕ = (8 - s .place % 8) % 8 in
-    let n : ℕ = length p - (length p - k) % 8 in
+    let n = e .result in
     let z : k - 0 ≡ k = omega arith in
     let b =
     word-begins s (c .before .bytes2 .result) p k (u .usable .ensures .1) refl (omega arith)
@@ -80,7 +77,7 @@ bytes-requires-3 : tie.Need-bytes-requires-3
 bytes-requires-3 c κs =
     let w = c .before in
     let b = w .before .before in
-    let s = b .before .before .before .before .usable in
+    let s = b .before .before .before .before .before .usable in
     subst (λ (t : Sponge). t .place < 136) (sym (w .words .ensures))
     (absorbed-in (b .bytes2 .result) _
     (subst (λ (t : Sponge). t .place < 136) (sym (b .bytes2 .ensures)) (absorbed-in (s .result) _ (s .ensures .1 .in-block))))
@@ -89,15 +86,11 @@ returns-2 : tie.Need-returns-2
 returns-2 c =
     let w = c .before .before in
     let b = w .before .before in
-    let u = b .before .before .before .before in
+    let u = b .before .before .before .before .before in
     let p = now (u .before .before .args .part) in
     let s = u .usable .result in
-    let k : ℕ = (8 - s .place % 8) % 8 in
-    let n : ℕ = length p - (length p - k) % 8 in
-    let z : k - 0 ≡ k = omega arith in
-    three-parts s (b .bytes2 .result) (w .words .result) (c .bytes3 .result) p k n (omega arith)
-    (b .bytes2 .ensures ∙ ap (λ (m : ℕ). absorbed s (take m p)) z) (w .words .ensures)
-    (c .bytes3 .ensures ∙ ap (absorbed (w .words .result)) (take-all (length p - n) (drop n p) (omega (arith, length-drop n p))))
+    three-parts s _ _ _ p _ _ _ (b .bytes2 .ensures) (w .words .ensures) (c .bytes3 .ensures)
+    (stretches p ((8 - s .place % 8) % 8) (b .before .before .words-end .result) (omega arith))
     ∙ ap (λ (t : Sponge). absorbed t p) (u .usable .ensures .0)
 
 pub absorb-spec : {M : Type 1} → statement M
@@ -108,8 +101,7 @@ absorb-spec =
     sub-lead
     bytes-requires
     returns
-    sub-end
-    sub-end-2
+    words-end-requires
     sub-bytes
     part-bytes-start
     part-bytes-end
