@@ -9,11 +9,12 @@ use lib.ListN.{getD, set, take, drop, length, length-set, length-take, length-dr
 use lib.Pow.{pow-add, shl-exact, shl-lt}
 use lib.Seq.{set-set, set-getD, getD-set-same, getD-set-other, ext-getD, drop-nil, drop-drop}
 use Rattle.octets.specs.Bytes.{Bytes}
+use Rattle.octets.specs.Number.{little}
 use Rattle.octets.proofs.Bytes.{bytes-take, bytes-drop}
 use Rattle.permutation.specs.Lanes.{tab}
 use Rattle.permutation.proofs.Tabulated.{tab-at}
 use Rattle.keccak.specs.Sponge.{xorByte}
-use Rattle.keccak.specs.Hash.{littleEndian, word, xorBlock}
+use Rattle.keccak.specs.Hash.{word, xorBlock}
 use Rattle.keccak.proofs.Xor.{xor-assoc}
 
 -- bytes go in one after the other, the first as byte n of the state
@@ -54,30 +55,30 @@ stacked w b k hb =
 
 -- bytes that stay inside lane i, from its place k
 pub lane-in : (bs a : List ℕ) (i k : ℕ) → i < length a → k + length bs ≤ 8 → Bytes bs
-    → xorBytes a (8 * i + k) bs ≡ set a i (bitXor (getD a i 0) (littleEndian bs * 2 ^ (8 * k)))
-unfolding xorBytes
+    → xorBytes a (8 * i + k) bs ≡ set a i (bitXor (getD a i 0) (little bs * 2 ^ (8 * k)))
+unfolding xorBytes little
 lane-in [] a i k h l y =
     sym (ap (λ (x : ℕ). set a i (bitXor (getD a i 0) x)) (zero-mul (2 ^ (8 * k))) ∙ ap (set a i) (xor-zero-r (getD a i 0)) ∙ set-getD a i 0)
 lane-in (b ∷ bs) a i k h l y =
     let v : ℕ = bitXor (getD a i 0) (b * 2 ^ (8 * k)) in
-    let w : ℕ = littleEndian bs * 2 ^ (8 * (k + 1)) in
+    let w : ℕ = little bs * 2 ^ (8 * (k + 1)) in
     let n : 8 * i + k + 1 ≡ 8 * i + (k + 1) = omega arith in
     ap₂ (λ (r : List ℕ) (m : ℕ). xorBytes r m bs) (byte-in a i k b (omega arith) (y .0)) n
     ∙ lane-in bs (set a i v) i (k + 1) (omega (arith, length-set a i v)) (omega arith) (y .1)
     ∙ set-set a i v (bitXor (getD (set a i v) i 0) w)
     ∙ ap (λ (x : ℕ). set a i (bitXor x w)) (getD-set-same a i v 0 h)
-    ∙ ap (set a i) (xor-assoc (getD a i 0) (b * 2 ^ (8 * k)) w ∙ ap (bitXor (getD a i 0)) (stacked (littleEndian bs) b k (y .0)))
+    ∙ ap (set a i) (xor-assoc (getD a i 0) (b * 2 ^ (8 * k)) w ∙ ap (bitXor (getD a i 0)) (stacked (little bs) b k (y .0)))
 
 -- eight bytes are a lane's word
-pub word-in : (bs a : List ℕ) (i : ℕ) → i < length a → length bs ≡ 8 → Bytes bs → xorBytes a (8 * i) bs ≡ set a i (bitXor (getD a i 0) (littleEndian bs))
+pub word-in : (bs a : List ℕ) (i : ℕ) → i < length a → length bs ≡ 8 → Bytes bs → xorBytes a (8 * i) bs ≡ set a i (bitXor (getD a i 0) (little bs))
 word-in bs a i h l y =
     let z : 8 * i ≡ 8 * i + 0 = omega arith in
-    let one : littleEndian bs * 2 ^ 0 ≡ littleEndian bs = omega arith in
+    let one : little bs * 2 ^ 0 ≡ little bs = omega arith in
     ap (λ (n : ℕ). xorBytes a n bs) z ∙ lane-in bs a i 0 h (omega arith) y ∙ ap (λ (x : ℕ). set a i (bitXor (getD a i 0) x)) one
 
 -- the first word of several
 next-word : (bs a : List ℕ) (i : ℕ) → i < length a → 8 ≤ length bs → Bytes bs
-    → xorBytes a (8 * i) bs ≡ xorBytes (set a i (bitXor (getD a i 0) (littleEndian (take 8 bs)))) (8 * suc i) (drop 8 bs)
+    → xorBytes a (8 * i) bs ≡ xorBytes (set a i (bitXor (getD a i 0) (little (take 8 bs)))) (8 * suc i) (drop 8 bs)
 next-word bs a i h l y =
     let t : length (take 8 bs) ≡ 8 = omega (arith, length-take 8 bs) in
     ap (xorBytes a (8 * i)) (sym (take-append-drop 8 bs))
@@ -95,24 +96,24 @@ lower (b ∷ bs) a n j h =
 -- lane i + j gets word j
 upper : (n : ℕ) (bs a : List ℕ) (i j k : ℕ) → k ≡ i + j → length bs ≡ 8 * n → i + n ≤ length a → Bytes bs
     → getD (xorBytes a (8 * i) bs) k 0 ≡ bitXor (getD a k 0) (word bs j)
-unfolding xorBytes
+unfolding xorBytes little
 upper zero [] a i j k e l h y =
-    sym (ap (λ (r : List ℕ). bitXor (getD a k 0) (littleEndian (take 8 r))) (drop-nil (8 * j)) ∙ xor-zero-r (getD a k 0))
+    sym (ap (λ (r : List ℕ). bitXor (getD a k 0) (little (take 8 r))) (drop-nil (8 * j)) ∙ xor-zero-r (getD a k 0))
 upper zero (b ∷ bs) a i j k e l h y = absurd (omega arith)
 upper (suc n) bs a i zero k e l h y =
-    let v : ℕ = bitXor (getD a i 0) (littleEndian (take 8 bs)) in
+    let v : ℕ = bitXor (getD a i 0) (little (take 8 bs)) in
     let ki : k ≡ i = omega arith in
     ap (λ (r : List ℕ). getD r k 0) (next-word bs a i (omega arith) (omega arith) y)
     ∙ lower (drop 8 bs) (set a i v) (8 * suc i) k (omega arith)
     ∙ ap (λ (m : ℕ). getD (set a i v) m 0) ki
     ∙ getD-set-same a i v 0 (omega arith)
-    ∙ ap (λ (m : ℕ). bitXor (getD a m 0) (littleEndian (take 8 bs))) (sym ki)
+    ∙ ap (λ (m : ℕ). bitXor (getD a m 0) (little (take 8 bs))) (sym ki)
 upper (suc n) bs a i (suc j) k e l h y =
-    let v : ℕ = bitXor (getD a i 0) (littleEndian (take 8 bs)) in
+    let v : ℕ = bitXor (getD a i 0) (little (take 8 bs)) in
     let m : 8 + 8 * j ≡ 8 * suc j = omega arith in
     ap (λ (r : List ℕ). getD r k 0) (next-word bs a i (omega arith) (omega arith) y)
     ∙ upper n (drop 8 bs) (set a i v) (suc i) j k (omega arith) (omega (arith, length-drop 8 bs)) (omega (arith, length-set a i v)) (bytes-drop 8 bs y)
-    ∙ ap₂ bitXor (getD-set-other a i k v 0 (λ ki. omega arith)) (ap (λ (r : List ℕ). littleEndian (take 8 r)) (drop-drop (8 * j) 8 bs ∙ ap (λ (p : ℕ). drop p bs) m))
+    ∙ ap₂ bitXor (getD-set-other a i k v 0 (λ ki. omega arith)) (ap (λ (r : List ℕ). little (take 8 r)) (drop-drop (8 * j) 8 bs ∙ ap (λ (p : ℕ). drop p bs) m))
 
 -- a whole block
 pub block-in : (a bs : List ℕ) → length a ≡ 25 → length bs ≡ 136 → Bytes bs → xorBytes a 0 bs ≡ xorBlock a bs

@@ -1,6 +1,5 @@
 -- Laws that belong to no one function.
 pub mod Xor
-pub mod Word
 pub mod Lane
 pub mod Step
 pub mod Textbook

@@ -12,12 +12,13 @@ use borrow.Author.Tests.{eq-eqb, ne-eqb, lt-ltb, le-ltb}
 use lib.ListN.{getD, set, take, drop, length, length-set, length-take, length-drop, take-append-drop}
 use lib.Seq.{take-suc, take-add, take-all, length-take-le}
 use Rattle.octets.specs.Bytes.{Bytes}
+use Rattle.octets.specs.Number.{littleAt}
 use Rattle.octets.proofs.Bytes.{bytes-take, bytes-drop}
+use Rattle.octets.proofs.Numbers.{littleAt-fits}
 use Rattle.permutation.specs.Permutation.{permute}
 use Rattle.permutation.proofs.Rounds.{permute-length}
 use Rattle.keccak.specs.declared.sponge.Sponge.{Sponge}
 use Rattle.keccak.specs.Sponge.{Sound, sponge, fresh, usable, step, absorbed, xorByte}
-use Rattle.keccak.specs.Hash.{littleEndian}
 use Rattle.keccak.proofs.Lane.{xorBytes, word-in}
 
 pub absorbed-append : (s : Sponge) (xs ys : List ℕ) → absorbed s (xs ++ ys) ≡ absorbed (absorbed s xs) ys
@@ -138,14 +139,14 @@ module _ (a : List ℕ) (n p : ℕ) (s : Sponge) (q : List ℕ) (i : ℕ) (h : i
 
 -- a word: the same at a place where one begins
 module _ (a : List ℕ) (n w : ℕ) (s : Sponge) (q : List ℕ) (i : ℕ) (ha : length a ≡ 25) (hn : n < 136) (al : n % 8 ≡ 0) (h : i + 8 ≤ length q) (y : Bytes q)
-    (ew : w ≡ littleEndian (take 8 (drop i q))) (was : sponge a n ≡ absorbed s (take i q)) where
+    (ew : w ≡ littleAt 8 q i) (was : sponge a n ≡ absorbed s (take i q)) where
   long : length (take 8 (drop i q)) ≡ 8
   long = omega (arith, length-take 8 (drop i q), length-drop i q)
 
   word-same : set a (n / 8) (bitXor (getD a (n / 8) 0) w) ≡ xorBytes a n (take 8 (drop i q))
   word-same =
       let e : 8 * (n / 8) ≡ n = omega arith in
-      ap (λ (x : ℕ). set a (n / 8) (bitXor (getD a (n / 8) 0) x)) ew
+      ap (λ (x : ℕ). set a (n / 8) (bitXor (getD a (n / 8) 0) x)) (ew ∙ littleAt-fits 8 q i h)
       ∙ sym (word-in (take 8 (drop i q)) a (n / 8) (omega arith) long (bytes-take 8 (drop i q) (bytes-drop i q y)))
       ∙ ap (λ (m : ℕ). xorBytes a m (take 8 (drop i q))) e
 

@@ -2,9 +2,10 @@
 -- first 32 bytes.
 use mathlib.Core.List.{List, [], _∷_, _++_}
 use mathlib.Core.Path.{_≡_, refl}
-use Prim.Native.Nat.{ℕ, zero, suc, _+_, _-_, _*_, _/_, _%_}
+use Prim.Native.Nat.{ℕ, zero, suc, _-_, _*_, _/_, _%_}
 use lib.Bits.{bitXor}
 use lib.ListN.{length, getD, take, drop, replicate}
+use Rattle.octets.specs.Number.{little}
 use Rattle.permutation.specs.Lanes.{tab}
 use Rattle.permutation.specs.Permutation.{permute}
 use Rattle.keccak.specs.Sponge.{digestOf}
@@ -22,13 +23,9 @@ padded m = m ++ padding (136 - length m % 136)
 abbrev pub blockCount : List ℕ → ℕ
 blockCount m = length (padded m) / 136
 
-abbrev pub littleEndian : List ℕ → ℕ
-littleEndian [] = 0
-littleEndian (b ∷ bs) = b + 256 * littleEndian bs
-
 -- the 64-bit word that bytes 8i to 8i + 7 make; 0 past the end
 abbrev pub word : List ℕ → ℕ → ℕ
-word bs i = littleEndian (take 8 (drop (8 * i) bs))
+word bs i = little (take 8 (drop (8 * i) bs))
 
 unfoldable pub xorBlock : List ℕ → List ℕ → List ℕ
 xorBlock a block = tab (λ i. bitXor (getD a i 0) (word block i)) 0 25

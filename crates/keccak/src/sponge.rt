@@ -1,7 +1,7 @@
 // The sponge is a value: each absorbing method takes it and hands it back, and a last one gives the digest.
 use crate::words::digest;
 use crate::words::placed;
-use crate::words::word_at;
+use octets::number::read_little64;
 use permutation::permute;
 ghost use mathlib.Core.Path.{_≡_};
 ghost use Prim.Native.Nat.{_-_, _%_, _<_, _≤_};
@@ -74,7 +74,7 @@ impl Sponge {
         let mut i = 0;
         while i < part.len() {
             let k = place / 8;
-            lanes[k] = lanes[k] ^ word_at(part, i);
+            lanes[k] = lanes[k] ^ read_little64(part, i);
             place += 8;
             if place == RATE {
                 lanes = permute(lanes);

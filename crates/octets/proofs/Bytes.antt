@@ -1,5 +1,5 @@
 -- Laws of strings of bytes.
-use mathlib.Core.List.{List, [], _∷_, _++_, reverse, reverseAux}
+use mathlib.Core.List.{List, [], _∷_, _++_}
 use Prim.Native.Nat.{ℕ, zero, suc, _<_}
 use native.Mathlib.Omega.{arith}
 use lib.ListN.{getD, take, drop, replicate}
@@ -32,10 +32,3 @@ bytes-at (x ∷ xs) (suc i) h = bytes-at xs i (h .1)
 pub bytes-known : (xs : List ℕ) → ((i : ℕ) → getD xs i 0 < 256) → Bytes xs
 bytes-known [] h = tt
 bytes-known (x ∷ xs) h = (h 0, bytes-known xs (λ i. h (suc i)))
-
-pub bytes-reverse : (xs : List ℕ) → Bytes xs → Bytes (reverse xs)
-bytes-reverse xs h = go xs [] h tt
-  where
-    go : (xs r : List ℕ) → Bytes xs → Bytes r → Bytes (reverseAux xs r)
-    go [] r h k = k
-    go (x ∷ xs) r h k = go xs (x ∷ r) (h .1) (h .0, k)

@@ -1,6 +1,6 @@
 -- The bytes of a number in a buffer, and shifts and | that join them.
 use mathlib.Core.Path.{_≡_, sym, ap, _∙_}
-use mathlib.Core.List.{List, [], _∷_, reverse}
+use mathlib.Core.List.{List, [], _∷_}
 use Prim.Native.Nat.{ℕ, suc, _+_, _*_, _^_, _%_, _≤_, _<_}
 use native.Mathlib.Nat.{add-mul, mul-assoc}
 use native.Mathlib.Numerals.{unary-clauses}
@@ -9,8 +9,13 @@ use lib.Bits.{bitOr, or-shifted}
 use lib.Pow.{pow-add, shl-exact, shl-lt}
 use lib.ListN.{length, getD, take, drop}
 use lib.Seq.{drop-cons}
-use Rattle.octets.specs.Number.{big, little, bigAt}
-use Rattle.octets.proofs.Numbers.{bigAt-fits}
+use Rattle.octets.specs.Number.{big, little, bigAt, littleAt}
+use Rattle.octets.proofs.Numbers.{bigAt-fits, littleAt-fits}
+
+-- eight bytes taken from the last to the first
+little8 : (a b c d e f g h : ℕ) → big (h ∷ g ∷ f ∷ e ∷ d ∷ c ∷ b ∷ a ∷ []) ≡ little (a ∷ b ∷ c ∷ d ∷ e ∷ f ∷ g ∷ h ∷ [])
+unfolding big little
+little8 a b c d e f g h = omega arith
 
 -- the bytes from `at`, one by one; where r is what joining them gives, it is the number there
 module _ (s : List ℕ) (at : ℕ) where
@@ -32,9 +37,8 @@ module _ (s : List ℕ) (at : ℕ) where
   pub read8 : (r : ℕ) → at + 8 ≤ length s → r ≡ big (getD s at 0 ∷ getD s (at + 1) 0 ∷ getD s (at + 2) 0 ∷ getD s (at + 3) 0 ∷ getD s (at + 4) 0 ∷ getD s (at + 5) 0 ∷ getD s (at + 6) 0 ∷ getD s (at + 7) 0 ∷ []) → r ≡ bigAt 8 s at
   read8 r h e = e ∙ sym (bigAt-fits 8 s at h ∙ ap big (eight h))
 
-  pub read-little8 : (r : ℕ) → at + 8 ≤ length s → r ≡ big (getD s (at + 7) 0 ∷ getD s (at + 6) 0 ∷ getD s (at + 5) 0 ∷ getD s (at + 4) 0 ∷ getD s (at + 3) 0 ∷ getD s (at + 2) 0 ∷ getD s (at + 1) 0 ∷ getD s at 0 ∷ []) → r ≡ little (take 8 (drop at s))
-  unfolding little
-  read-little8 r h e = e ∙ sym (ap (λ (l : List ℕ). big (reverse l)) (eight h))
+  pub read-little8 : (r : ℕ) → at + 8 ≤ length s → r ≡ big (getD s (at + 7) 0 ∷ getD s (at + 6) 0 ∷ getD s (at + 5) 0 ∷ getD s (at + 4) 0 ∷ getD s (at + 3) 0 ∷ getD s (at + 2) 0 ∷ getD s (at + 1) 0 ∷ getD s at 0 ∷ []) → r ≡ littleAt 8 s at
+  read-little8 r h e = e ∙ little8 _ _ _ _ _ _ _ _ ∙ sym (littleAt-fits 8 s at h ∙ ap little (eight h))
 
 -- one byte more in a word of w bits: what is joined so far, a, stands above it
 step : (w X a b k : ℕ) → X ≡ a * 2 ^ (8 + k) → b < 2 ^ 8 → 8 + k ≤ w → bitOr X ((b * 2 ^ k) % 2 ^ w) ≡ (a * 256 + b) * 2 ^ k

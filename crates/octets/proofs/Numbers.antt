@@ -1,15 +1,15 @@
--- Laws of big-endian numbers.
+-- Laws of numbers in bytes.
 use mathlib.Core.Path.{_≡_, refl, sym, ap, _∙_}
-use mathlib.Core.List.{List, [], _∷_, _++_, reverse, reverse-reverse}
+use mathlib.Core.List.{List, [], _∷_, _++_}
 use Prim.Native.Nat.{ℕ, zero, suc, _+_, _*_, _/_, _%_, _^_, _≤_, _<_}
-use native.Mathlib.Nat.{zero-add, zero-mul, add-mul, mul-assoc, add-assoc, pow-suc, mul-le-mul-right}
+use native.Mathlib.Nat.{zero-add, zero-mul, add-mul, mul-assoc, add-assoc, pow-suc, mul-le-mul-right, suc-inj}
 use native.Mathlib.Omega.{arith}
 use lib.Pow.{pow-add}
-use lib.ListN.{length, take, drop, length-append, length-reverse}
+use lib.ListN.{length, take, drop, length-append}
 use borrow.Author.Tests.{le-leb, lt-leb}
 use Rattle.octets.specs.Bytes.{Bytes}
-use Rattle.octets.specs.Number.{big, little, bigAt, bytesOf}
-use Rattle.octets.proofs.Bytes.{bytes-append, bytes-reverse}
+use Rattle.octets.specs.Number.{big, little, bigAt, littleAt, bytesOf}
+use Rattle.octets.proofs.Bytes.{bytes-append}
 
 pub big-nil : big [] ≡ 0
 unfolding big
@@ -78,9 +78,14 @@ big-injective xs ys e hx hy h = sym (bytesOf-big xs hx) ∙ (λ k. bytesOf (e k)
 
 pub little-injective : (xs ys : List ℕ) → length xs ≡ length ys → Bytes xs → Bytes ys → little xs ≡ little ys → xs ≡ ys
 unfolding little
-little-injective xs ys e hx hy h =
-    let turned = big-injective (reverse xs) (reverse ys) (length-reverse xs ∙ e ∙ sym (length-reverse ys)) (bytes-reverse xs hx) (bytes-reverse ys hy) h in
-    sym (reverse-reverse xs) ∙ ap reverse turned ∙ reverse-reverse ys
+little-injective [] [] e hx hy h = refl
+little-injective [] (y ∷ ys) e hx hy h = absurd (omega arith)
+little-injective (x ∷ xs) [] e hx hy h = absurd (omega arith)
+little-injective (x ∷ xs) (y ∷ ys) e hx hy h =
+    let least : x ≡ y = omega (arith, hx .0, hy .0) in
+    let rest : little xs ≡ little ys = omega (arith, hx .0, hy .0) in
+    let same : xs ≡ ys = little-injective xs ys (suc-inj e) (hx .1) (hy .1) rest in
+    λ k. least k ∷ same k
 
 -- a number in a buffer
 
@@ -91,3 +96,11 @@ bigAt-fits width s at h = rw (le-leb _ _ h)
 pub bigAt-not : (width : ℕ) (s : List ℕ) (at : ℕ) → length s < at + width → bigAt width s at ≡ 0
 unfolding bigAt
 bigAt-not width s at h = rw (lt-leb _ _ h)
+
+pub littleAt-fits : (width : ℕ) (s : List ℕ) (at : ℕ) → at + width ≤ length s → littleAt width s at ≡ little (take width (drop at s))
+unfolding littleAt
+littleAt-fits width s at h = rw (le-leb _ _ h)
+
+pub littleAt-not : (width : ℕ) (s : List ℕ) (at : ℕ) → length s < at + width → littleAt width s at ≡ 0
+unfolding littleAt
+littleAt-not width s at h = rw (lt-leb _ _ h)

@@ -11,10 +11,10 @@ use Rattle.octets.specs.declared.order.Order.{Order}
 use Rattle.octets.specs.declared.order.Order.the-variants.{Less, Same, More}
 use Rattle.octets.specs.Bytes.{Bytes}
 use Rattle.octets.specs.Order.{numberOrder, andThen, byteOrder}
-use Rattle.octets.specs.Number.{little, bigAt, bytesOf}
+use Rattle.octets.specs.Number.{bigAt, littleAt, bytesOf}
 use Rattle.octets.specs.Moving.{over}
 use Rattle.octets.proofs.Bytes.{bytes-take, bytes-drop}
-use Rattle.octets.proofs.Numbers.{length-bytesOf, bigAt-fits, little-injective}
+use Rattle.octets.proofs.Numbers.{length-bytesOf, bigAt-fits, littleAt-fits, little-injective}
 use Rattle.octets.proofs.Ordered.{number-less, number-same, number-more, order-self, order-append, order-number}
 use Rattle.octets.proofs.Edits.{part-length}
 
@@ -76,14 +76,14 @@ word-first width a b i ha hb ka kb h =
 
 -- equal words make both equal further on
 pub equal-more : (width : ℕ) (a b : List ℕ) (i : ℕ) → i + width ≤ length a → i + width ≤ length b → Bytes a → Bytes b
-    → take i a ≡ take i b → little (take width (drop i a)) ≡ little (take width (drop i b)) → take (i + width) a ≡ take (i + width) b
+    → take i a ≡ take i b → littleAt width a i ≡ littleAt width b i → take (i + width) a ≡ take (i + width) b
 equal-more width a b i ha hb ka kb e h =
     let x = take width (drop i a) in
     let y = take width (drop i b) in
     let count : length x ≡ length y = part-length a i width ha ∙ sym (part-length b i width hb) in
     let kx : Bytes x = bytes-take width (drop i a) (bytes-drop i a ka) in
     let ky : Bytes y = bytes-take width (drop i b) (bytes-drop i b kb) in
-    let same : x ≡ y = little-injective x y count kx ky h in
+    let same : x ≡ y = little-injective x y count kx ky (sym (littleAt-fits width a i ha) ∙ h ∙ littleAt-fits width b i hb) in
     take-add i width a ∙ (λ k. e k ++ same k) ∙ sym (take-add i width b)
 
 -- storing upward: t is the buffer at the loop's head, with the first i bytes of v in it

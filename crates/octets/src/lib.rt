@@ -1,4 +1,4 @@
-// Bytes: their order, big-endian numbers, and moves inside a lent buffer.
+// Bytes: their order, numbers in them, and moves inside a lent buffer.
 pub mod moving;
 pub mod number;
 pub mod order;

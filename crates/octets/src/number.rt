@@ -1,9 +1,9 @@
-// Big-endian numbers of two, four and eight bytes, read from a buffer and written into one.
+// Numbers of two, four and eight bytes, read from a buffer and written into one: big-endian, and little-endian where the name says so.
 ghost use mathlib.Core.Path.{_≡_};
 ghost use mathlib.Core.List.{[], _∷_};
 ghost use Prim.Native.Nat.{_+_, _≤_};
-ghost use lib.ListN.{length, take, drop};
-ghost use Rattle.octets.specs.Number.{big, little, bigAt, bytesOf};
+ghost use lib.ListN.{length};
+ghost use Rattle.octets.specs.Number.{big, bigAt, littleAt, bytesOf};
 ghost use Rattle.octets.specs.Moving.{placed};
 
 // The number that stands in the two bytes of `s` from `at`, 0 where they are not there.
@@ -45,6 +45,19 @@ pub fn read64(s: &[u8], at: usize) -> u64
     word(s, at)
 }
 
+// The number that stands in the eight bytes of `s` from `at`, the least byte first, 0 where they are not there.
+pub fn read_little64(s: &[u8], at: usize) -> u64
+    ensures { λ r. ⌜ r ≡ littleAt 8 (now (s .entry)) at ⌝ }
+{
+    if s.len() < 8 {
+        return 0;
+    }
+    if s.len() - 8 < at {
+        return 0;
+    }
+    little_word(s, at)
+}
+
 // `n` as two bytes, over those of `s` from `at`; nothing is written where they are not there.
 pub fn write16(s: &mut [u8], at: usize, n: u16)
     ensures { λ _. ⌜ now (s .exit) ≡ placed (now (s .entry)) at (bytesOf 2 n) ⌝ }
@@ -83,10 +96,10 @@ pub(crate) fn word(s: &[u8], at: usize) -> u64
     )
 }
 
-// The same bytes as a little-endian number, a plain load: all it takes to see whether two words are equal.
+// The same with the least byte first, a plain load.
 pub(crate) fn little_word(s: &[u8], at: usize) -> u64
     requires { ⌜ at + 8 ≤ length (now s) ⌝ }
-    ensures { λ r. ⌜ r ≡ little (take 8 (drop at (now (s .entry)))) ⌝ }
+    ensures { λ r. ⌜ r ≡ littleAt 8 (now (s .entry)) at ⌝ }
 {
     join8(
         s[at + 7],

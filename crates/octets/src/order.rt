@@ -2,7 +2,7 @@
 use crate::number::little_word;
 use crate::number::word;
 ghost use mathlib.Core.Path.{_≡_};
-ghost use Prim.Native.Nat.{_≤_};
+ghost use Prim.Native.Nat.{_≤_, min};
 ghost use lib.ListN.{length, take, drop};
 ghost use Rattle.octets.specs.Order.{byteOrder};
 
@@ -32,7 +32,7 @@ pub fn compare(a: &[u8], b: &[u8]) -> Order
     compare_from(a, b, i)
 }
 
-// How far the first `n` bytes of both are equal, by whole words.
+// How far the first `n` bytes of both are equal, by whole words. Little-endian ones will do to see that.
 fn equal_words(a: &[u8], b: &[u8], n: usize) -> usize
     requires { ⌜ (n ≤ length (now a)) × (n ≤ length (now b)) ⌝ }
     ensures { λ r. ⌜ (r ≤ n) × (take r (now (a .entry)) ≡ take r (now (b .entry))) ⌝ }
@@ -74,8 +74,8 @@ fn compare_from(a: &[u8], b: &[u8], from: usize) -> Order
 }
 
 // The lesser of two lengths.
-fn lesser(a: usize, b: usize) -> usize
-    ensures { λ r. ⌜ (r ≤ a) × (r ≤ b) ⌝ }
+pub fn lesser(a: usize, b: usize) -> usize
+    ensures { λ r. ⌜ r ≡ min a b ⌝ }
 {
     if a < b { a } else { b }
 }

@@ -31,8 +31,8 @@ mul-lanes c = search needs
 array-read-lanes : tie.Need-array-read-lanes Inv-loop μ-loop
 array-read-lanes c = search needs
 
-word-at-requires : tie.Need-word-at-requires Inv-loop μ-loop
-word-at-requires c κs = search needs
+read-little64-requires : tie.Need-read-little64-requires Inv-loop μ-loop
+read-little64-requires c κs = search needs
 
 mul-lanes-2 : tie.Need-mul-lanes-2 Inv-loop μ-loop
 mul-lanes-2 c = search needs
@@ -58,7 +58,7 @@ loop-again c =
     let k = c .before .before .before .before .before in
     let g = k .before .args in
     let p = now (g .part) in
-    let w = c .before .word-at in
+    let w = c .before .read-little64 in
     let known = bytes-known p (λ i. k .shared-slice-known .given i .fits) in
     let h : l .i + 8 ≤ length p = omega arith in
     ⊎-elim
@@ -96,7 +96,7 @@ words-spec =
     loop-holds
     mul-lanes
     array-read-lanes
-    word-at-requires
+    read-little64-requires
     mul-lanes-2
     array-write-lanes
     add-place
