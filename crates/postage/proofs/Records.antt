@@ -1,13 +1,13 @@
 -- The records of a list, one by one and by their place.
-use mathlib.Core.Path.{_≡_, refl, ap, _∙_}
+use mathlib.Core.Path.{_≡_, refl, sym, ap, _∙_}
 use mathlib.Core.List.{List, [], _∷_}
 use Prim.Native.Nat.{ℕ, suc, _+_, _-_, _*_, _≤_, _<_}
 use native.Mathlib.Nat.{add-sub-cancel-left, mul-comm}
 use native.Mathlib.Omega.{arith}
 use lib.ListN.{length, getD, take, drop, length-drop}
-use lib.Seq.{take-take, getD-take, getD-drop}
+use lib.Seq.{take-all, take-take, drop-length, getD-take, getD-drop}
 use Rattle.octets.specs.Pieces.{pieces}
-use Rattle.octets.proofs.Edits.{part-length}
+use Rattle.octets.proofs.Edits.{part-length, part-of-take}
 use Rattle.octets.proofs.Pieces.{pieces-none, pieces-more, length-pieces, piece-at}
 use Rattle.postage.specs.Batch.{recordLength, recordFrom, idOf, depthOf, count, batchAt, records}
 
@@ -42,8 +42,23 @@ module _ (s : List ℕ) (at : ℕ) where
   pub id-part : take (at + 32 - at) (drop at s) ≡ idOf (recordFrom s at)
   id-part = rw (add-sub-cancel-left at 32, take-take 32 recordLength (drop at s) (omega arith))
 
+  -- a record that ends before `end` stands in the bytes before it
+  pub record-front : (end : ℕ) → at + recordLength ≤ end → recordFrom (take end s) at ≡ recordFrom s at
+  record-front end h =
+      let e : end ≡ at + (end - at) = omega arith in
+      ap (λ (m : ℕ). recordFrom (take m s) at) e ∙ ap (take recordLength) (part-of-take at (end - at) s) ∙ take-take recordLength (end - at) (drop at s) (omega arith)
+
+  -- less than a record is left
+  pub rest-part : length s - at < recordLength → take (length s - at) (drop at s) ≡ recordFrom s at
+  rest-part h =
+      let n = length-drop at s in
+      take-all (length s - at) (drop at s) (omega (arith, n)) ∙ sym (take-all recordLength (drop at s) (omega (arith, n)))
+
   pub depth-part : getD s (at + 52) 0 ≡ depthOf (recordFrom s at)
   depth-part = rw (getD-take recordLength (drop at s) 52 0 (omega arith), getD-drop at s 52 0)
+
+pub no-record : (s : List ℕ) → recordFrom s (length s) ≡ []
+no-record s = ap (take recordLength) (drop-length s)
 
 pub length-batchAt : (s : List ℕ) (i : ℕ) → i < count s → length (batchAt s i) ≡ recordLength
 unfolding batchAt
