@@ -2,9 +2,10 @@
 use mathlib.Core.Path.{refl}
 use Rattle.octets.specs.Number.{big, bigAt, bytesOf}
 use Rattle.octets.specs.Order.{byteOrder}
+use Rattle.octets.specs.Pieces.{pieces}
 use Rattle.nearness.specs.Bits.{bits, bitsOf, leadingEqual, sharedBits}
 use Rattle.postage.specs.Stamp.{slotsOf}
-use Rattle.postage.specs.Batch.{cut, records, fit, below, ordered, wellListed, find}
+use Rattle.postage.specs.Batch.{records, fit, below, ordered, wellListed, find}
 use Rattle.postage.specs.Rules.{inBucket, inSlots, isOwner, rules, checked}
 use Rattle.settling.specs.Rank.{higher}
 use Rattle.settling.specs.Book.{enter, inside, settle, offer}
@@ -21,7 +22,7 @@ use Rattle.reserve.specs.Offer.{entered, offered}
 use Rattle.examples.specs.Books.{batches, address, stamp, slotAt, slots, nineAndSeven, eightOfEach, inBucket0, fresh, answers, SettledBooks}
 
 pub settled-books : SettledBooks
-unfolding batches address stamp slotAt slots nineAndSeven eightOfEach inBucket0 fresh answers heard big bigAt bytesOf byteOrder bits bitsOf leadingEqual sharedBits slotsOf cut records fit below ordered wellListed find inBucket inSlots isOwner rules checked higher enter inside settle offer holder taken against outcome nearOf rankOrder beats stampAnswer Layout.cut laid read write labelled sized levelled stands allStand rises zeros wellFormed entered offered
+unfolding batches address stamp slotAt slots nineAndSeven eightOfEach inBucket0 fresh answers heard big bigAt bytesOf byteOrder bits bitsOf leadingEqual sharedBits slotsOf pieces records fit below ordered wellListed find inBucket inSlots isOwner rules checked higher enter inside settle offer holder taken against outcome nearOf rankOrder beats stampAnswer Layout.cut laid read write labelled sized levelled stands allStand rises zeros wellFormed entered offered
 settled-books =
     record {
       nine-and-seven-kept = refl;

@@ -2,11 +2,12 @@
 use mathlib.Core.Path.{_≡_}
 use mathlib.Core.Bool.{Bool, true, cond, _&&_}
 use mathlib.Core.List.{List, [], _∷_}
-use Prim.Native.Nat.{ℕ, zero, suc, _*_, _/_, _%_, _≤_, _<_}
+use Prim.Native.Nat.{ℕ, _*_, _/_, _%_, _≤_, _<_}
 use lib.Dec.{eqb, leb}
 use lib.ListN.{length, getD, take, drop}
 use Rattle.octets.specs.declared.order.Order.the-variants.{Less}
 use Rattle.octets.specs.Order.{byteOrder, isLess, isSame}
+use Rattle.octets.specs.Pieces.{pieces}
 
 -- the one place where a record's length stands
 abbrev pub recordLength : ℕ
@@ -58,14 +59,9 @@ Listed list id = (i : ℕ) × (i < count list) × (idOf (batchAt list i) ≡ id)
 
 -- ---- the same as a test
 
--- the first n records of a list
-unfoldable pub cut : ℕ → List ℕ → List (List ℕ)
-cut zero list = []
-cut (suc n) list = recordFrom list 0 ∷ cut n (drop recordLength list)
-
--- its whole records
+-- the whole records of a list
 unfoldable pub records : List ℕ → List (List ℕ)
-records list = cut (count list) list
+records list = pieces recordLength (count list) list
 
 unfoldable pub fit : List ℕ → Bool
 fit batch = leb 17 (depthOf batch) && leb (depthOf batch) 40

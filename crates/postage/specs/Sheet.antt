@@ -5,7 +5,8 @@ use Prim.Native.Nat.{ℕ}
 use lib.ListN.{replicate}
 use Rattle.octets.specs.Order.{byteOrder}
 use Rattle.octets.specs.Number.{big, bigAt, bytesOf}
-use Rattle.postage.specs.Batch.{cut, records, fit, below, ordered, wellListed, find}
+use Rattle.octets.specs.Pieces.{pieces}
+use Rattle.postage.specs.Batch.{records, fit, below, ordered, wellListed, find}
 use Rattle.postage.specs.Stamp.{bucketOf, slotsOf}
 use Rattle.postage.specs.Rules.{stampNumber, inBucket, inSlots, isOwner, rules, checked}
 
@@ -26,5 +27,5 @@ stamp index = replicate 32 0x11 ++ (bytesOf 4 4660 ++ (bytesOf 4 index ++ replic
 
 -- address bytes 12 34: bucket 4660; batch depth 17: index 1 allowed, 2 gives 18
 pub sheet : (bucketOf address ≡ 4660) × (stampNumber (checked list address (stamp 1) owner) ≡ 0) × (stampNumber (checked list address (stamp 2) owner) ≡ 18)
-unfolding bigAt big bytesOf byteOrder cut records fit below ordered wellListed find slotsOf inBucket inSlots isOwner rules checked
+unfolding bigAt big bytesOf byteOrder pieces records fit below ordered wellListed find slotsOf inBucket inSlots isOwner rules checked
 sheet = (refl, refl, refl)

@@ -4,7 +4,7 @@ use octets::order::compare;
 ghost use mathlib.Core.Path.{_≡_};
 ghost use mathlib.Core.Bool.{true};
 ghost use Prim.Native.Nat.{_+_, _≤_};
-ghost use lib.ListN.{length, drop};
+ghost use lib.ListN.{length, take, drop};
 ghost use Rattle.postage.specs.Batch.{recordLength, recordFrom, records, fit, below, wellListed, find};
 
 // A record: the id comes first, then the owner, then the depth.
@@ -18,15 +18,23 @@ const RECORD: usize = 53;
 pub fn check_batches(batches: &[u8]) -> bool
     ensures { λ r. ⌜ r ≡ wellListed (now (batches .entry)) ⌝ }
 {
-    if batches.len() % RECORD != 0 {
+    stands(batches, batches.len())
+}
+
+// Whether a list is well formed as far as `end`.
+pub(crate) fn stands(batches: &[u8], end: usize) -> bool
+    requires { ⌜ end ≤ length (now batches) ⌝ }
+    ensures { λ r. ⌜ r ≡ wellListed (take end (now (batches .entry))) ⌝ }
+{
+    if end % RECORD != 0 {
         return false;
     }
     let mut at = 0;
-    while at < batches.len() {
+    while at < end {
         if !fit(batches, at) {
             return false;
         }
-        if !below_next(batches, at) {
+        if !below_next(batches, at, end) {
             return false;
         }
         at += RECORD;
@@ -46,28 +54,28 @@ fn fit(batches: &[u8], at: usize) -> bool
     depth <= 40
 }
 
-// Whether the id of the record at `at` is below that of the next, if there is a next.
-fn below_next(batches: &[u8], at: usize) -> bool
-    requires { ⌜ at + recordLength ≤ length (now batches) ⌝ }
-    ensures { λ r. ⌜ r ≡ below (recordFrom (now (batches .entry)) at) (records (drop (at + recordLength) (now (batches .entry)))) ⌝ }
+// Whether the id of the record at `at` is below that of the next, if there is a next before `end`.
+fn below_next(batches: &[u8], at: usize, end: usize) -> bool
+    requires { ⌜ (at + recordLength ≤ end) × (end ≤ length (now batches)) ⌝ }
+    ensures { λ r. ⌜ r ≡ below (recordFrom (now (batches .entry)) at) (records (drop (at + recordLength) (take end (now (batches .entry))))) ⌝ }
 {
     let next = at + RECORD;
-    if batches.len() - next < RECORD {
+    if end - next < RECORD {
         return true;
     }
-    let end = at + ID;
+    let id_end = at + ID;
     let next_end = next + ID;
-    match compare(&batches[at..end], &batches[next..next_end]) {
+    match compare(&batches[at..id_end], &batches[next..next_end]) {
         Order::Less => true,
         Order::Same => false,
         Order::More => false,
     }
 }
 
-// The record with this id, by halving; no bytes where there is none.
-pub(crate) fn find<'a>(batches: &'a [u8], id: &[u8]) -> &'a [u8]
-    requires { ⌜ wellListed (now batches) ≡ true ⌝ }
-    ensures { λ r. ⌜ now r ≡ find (now (id .entry)) (records (now (batches .entry))) ⌝ }
+// Where the record with this id begins, by halving; the list's end where there is none.
+// It reads whole records alone, so that any bytes may be searched; it is right where the list is well formed.
+pub(crate) fn find(batches: &[u8], id: &[u8]) -> usize
+    ensures { λ r. ⌜ (r ≤ length (now (batches .entry))) × (wellListed (now (batches .entry)) ≡ true → recordFrom (now (batches .entry)) r ≡ find (now (id .entry)) (records (now (batches .entry)))) ⌝ }
 {
     let mut low = 0;
     let mut high = batches.len() / RECORD;
@@ -80,13 +88,24 @@ pub(crate) fn find<'a>(batches: &'a [u8], id: &[u8]) -> &'a [u8]
                 low = middle + 1;
             }
             Order::Same => {
-                let end = at + RECORD;
-                return &batches[at..end];
+                return at;
             }
             Order::More => {
                 high = middle;
             }
         }
     }
-    &batches[0..0]
+    batches.len()
+}
+
+// The record that begins at `at`; no bytes at the list's end.
+pub(crate) fn record_from<'a>(batches: &'a [u8], at: usize) -> &'a [u8]
+    requires { ⌜ at ≤ length (now batches) ⌝ }
+    ensures { λ r. ⌜ now r ≡ recordFrom (now (batches .entry)) at ⌝ }
+{
+    if batches.len() - at < RECORD {
+        return &batches[at..];
+    }
+    let end = at + RECORD;
+    &batches[at..end]
 }

@@ -1,17 +1,19 @@
 // The rules that a stamp must pass, in their order.
 use crate::batches::DEPTH;
 use crate::batches::ID;
-use crate::batches::check_batches;
 use crate::batches::find;
+use crate::batches::record_from;
+use crate::batches::stands;
 use octets::number::read16;
 use octets::number::read32;
 use octets::order::Order;
 use octets::order::compare;
 ghost use mathlib.Core.Path.{_≡_};
 ghost use mathlib.Core.Bool.{true};
+ghost use Prim.Native.Nat.{_≤_};
 ghost use lib.ListN.{length};
-ghost use Rattle.postage.specs.Batch.{Whole, wellListed};
-ghost use Rattle.postage.specs.Stamp.{stampLength};
+ghost use Rattle.postage.specs.Batch.{Whole, recordFrom, records, wellListed, find};
+ghost use Rattle.postage.specs.Stamp.{batchIn};
 ghost use Rattle.postage.specs.Rules.{stampNumber, inBucket, inSlots, isOwner, rules, checked};
 
 pub enum StampAnswer {
@@ -45,7 +47,9 @@ impl StampAnswer {
 pub fn check_stamp(batches: &[u8], address: &[u8], stamp: &[u8], account: &[u8]) -> StampAnswer
     ensures { λ r. ⌜ r ≡ checked (now (batches .entry)) (now (address .entry)) (now (stamp .entry)) (now (account .entry)) ⌝ }
 {
-    if !check_batches(batches) {
+    // The search takes any bytes: what it found counts only once the whole list stands, also behind that batch.
+    let at = find(batches, batch_in(stamp));
+    if !stands(batches, batches.len()) {
         return StampAnswer::BadList;
     }
     if address.len() != 32 {
@@ -57,15 +61,25 @@ pub fn check_stamp(batches: &[u8], address: &[u8], stamp: &[u8], account: &[u8])
     if account.len() != 20 {
         return StampAnswer::WrongLength;
     }
-    judge(batches, address, stamp, account)
+    judge(batches, at, address, stamp, account)
 }
 
-// Rules 16 to 19: the first that is broken answers.
-fn judge(batches: &[u8], address: &[u8], stamp: &[u8], account: &[u8]) -> StampAnswer
-    requires { ⌜ (wellListed (now batches) ≡ true) × (length (now stamp) ≡ stampLength) ⌝ }
+// The batch id in a stamp; of a stamp too short for one, what there is.
+fn batch_in<'a>(stamp: &'a [u8]) -> &'a [u8]
+    ensures { λ r. ⌜ now r ≡ batchIn (now (stamp .entry)) ⌝ }
+{
+    if stamp.len() < ID {
+        return stamp;
+    }
+    &stamp[0..ID]
+}
+
+// Rules 16 to 19: the first that is broken answers. The batch, if it is listed, begins at `at`.
+fn judge(batches: &[u8], at: usize, address: &[u8], stamp: &[u8], account: &[u8]) -> StampAnswer
+    requires { ⌜ (at ≤ length (now batches)) × (wellListed (now batches) ≡ true) × (recordFrom (now batches) at ≡ find (batchIn (now stamp)) (records (now batches))) ⌝ }
     ensures { λ r. ⌜ r ≡ rules (now (batches .entry)) (now (address .entry)) (now (stamp .entry)) (now (account .entry)) ⌝ }
 {
-    let batch = find(batches, &stamp[0..ID]);
+    let batch = record_from(batches, at);
     if batch.len() == 0 {
         return StampAnswer::NoBatch;
     }

@@ -11,32 +11,41 @@ use Rattle.postage.proofs.rules.judge.Tie as tie
 
 returns : tie.Need-returns
 unfolding rules
-returns c = rw (← c .before .find .ensures, c .if1 .taken)
+returns c =
+    let f = c .before in
+    let k = f .before .before .before .before .before in
+    let is = f .record-from .ensures ∙ k .pre .2 in
+    rw (← is, c .if1 .taken)
 
 returns-2 : tie.Need-returns-2
 unfolding rules
 returns-2 c =
     let f = c .before .before .before in
+    let k = f .before .before .before .before .before in
+    let is = f .record-from .ensures ∙ k .pre .2 in
     rw (
-      ← f .find .ensures,
-      lt-ltb 0 (length (f .find .result .now)) (pos-of-ne-zero (c .before .before .if1 .left)),
+      ← is,
+      lt-ltb 0 (length (f .record-from .result .now)) (pos-of-ne-zero (c .before .before .if1 .left)),
       sym (c .before .in-bucket .ensures) ∙ not-true _ (c .if2 .taken),
     )
 
 in-slots-requires : tie.Need-in-slots-requires
 in-slots-requires c κs =
     let f = c .before .before .before in
-    let k = f .before .before .before .before .before .before in
-    held (k .args .batches .now) (take 32 (k .args .stamp .now)) (f .find .result .now) (k .pre .0) (f .find .ensures) (c .before .before .if1 .left)
+    let k = f .before .before .before .before .before in
+    let is = f .record-from .ensures ∙ k .pre .2 in
+    held (k .args .batches .now) (take 32 (k .args .stamp .now)) (f .record-from .result .now) (k .pre .1) is (c .before .before .if1 .left)
 
 returns-3 : tie.Need-returns-3
 unfolding rules
 returns-3 c =
     let b = c .before .before .before in
     let f = b .before .before in
+    let k = f .before .before .before .before .before in
+    let is = f .record-from .ensures ∙ k .pre .2 in
     rw (
-      ← f .find .ensures,
-      lt-ltb 0 (length (f .find .result .now)) (pos-of-ne-zero (b .before .if1 .left)),
+      ← is,
+      lt-ltb 0 (length (f .record-from .result .now)) (pos-of-ne-zero (b .before .if1 .left)),
       sym (b .in-bucket .ensures) ∙ not-false _ (c .before .before .if2 .left),
       sym (c .before .in-slots .ensures) ∙ not-true _ (c .if3 .taken),
     )
@@ -44,8 +53,9 @@ returns-3 c =
 is-owner-requires : tie.Need-is-owner-requires
 is-owner-requires c κs =
     let f = c .before .before .before .before .before in
-    let k = f .before .before .before .before .before .before in
-    held (k .args .batches .now) (take 32 (k .args .stamp .now)) (f .find .result .now) (k .pre .0) (f .find .ensures) (c .before .before .before .before .if1 .left)
+    let k = f .before .before .before .before .before in
+    let is = f .record-from .ensures ∙ k .pre .2 in
+    held (k .args .batches .now) (take 32 (k .args .stamp .now)) (f .record-from .result .now) (k .pre .1) is (c .before .before .before .before .if1 .left)
 
 returns-4 : tie.Need-returns-4
 unfolding rules
@@ -53,9 +63,11 @@ returns-4 c =
     let s = c .before .before .before in
     let b = s .before .before in
     let f = b .before .before in
+    let k = f .before .before .before .before .before in
+    let is = f .record-from .ensures ∙ k .pre .2 in
     rw (
-      ← f .find .ensures,
-      lt-ltb 0 (length (f .find .result .now)) (pos-of-ne-zero (b .before .if1 .left)),
+      ← is,
+      lt-ltb 0 (length (f .record-from .result .now)) (pos-of-ne-zero (b .before .if1 .left)),
       sym (b .in-bucket .ensures) ∙ not-false _ (s .before .if2 .left),
       sym (s .in-slots .ensures) ∙ not-false _ (c .before .before .if3 .left),
       sym (c .before .is-owner .ensures) ∙ not-true _ (c .if4 .taken),
@@ -67,9 +79,11 @@ returns-5 c =
     let s = c .before .before .before in
     let b = s .before .before in
     let f = b .before .before in
+    let k = f .before .before .before .before .before in
+    let is = f .record-from .ensures ∙ k .pre .2 in
     rw (
-      ← f .find .ensures,
-      lt-ltb 0 (length (f .find .result .now)) (pos-of-ne-zero (b .before .if1 .left)),
+      ← is,
+      lt-ltb 0 (length (f .record-from .result .now)) (pos-of-ne-zero (b .before .if1 .left)),
       sym (b .in-bucket .ensures) ∙ not-false _ (s .before .if2 .left),
       sym (s .in-slots .ensures) ∙ not-false _ (c .before .before .if3 .left),
       sym (c .before .is-owner .ensures) ∙ not-false _ (c .if4 .left),
@@ -79,9 +93,6 @@ pub judge-spec : {M : Type 1} → statement M
 judge-spec =
     tie.close
     (tie.spec
-    (λ c. search needs)
-    (λ c. search needs)
-    (λ c. search needs)
     (λ c κs. search needs)
     returns
     (λ c κs. search needs)
