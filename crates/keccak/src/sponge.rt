@@ -64,7 +64,7 @@ impl Sponge {
         Sponge { lanes, place }
     }
 
-    // Eight bytes at a time, from a place where a word begins.
+    // Eight bytes at a time, from a place where a word begins. The loop tests that eight are left, and the read's own test is then compiled away.
     fn words(self, part: &[u8]) -> Self
         requires { ⌜ Sound self × (self .place % 8 ≡ 0) × (length (now part) % 8 ≡ 0) ⌝ }
         ensures { λ r. ⌜ r ≡ absorbed self (now (part .entry)) ⌝ }
@@ -72,7 +72,7 @@ impl Sponge {
         let mut lanes = self.lanes;
         let mut place = self.place;
         let mut i = 0;
-        while i < part.len() {
+        while 8 <= part.len() - i {
             let k = place / 8;
             lanes[k] = lanes[k] ^ read_little64(part, i);
             place += 8;

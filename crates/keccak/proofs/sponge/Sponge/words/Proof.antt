@@ -25,6 +25,9 @@ loop-holds : tie.Need-loop-holds Inv-loop μ-loop
 unfolding absorbed
 loop-holds c = let s = c .before .before .pre .0 in (omega arith, omega arith, s .in-block, omega arith, s .lanes25, refl)
 
+sub-loop : tie.Need-sub-loop Inv-loop μ-loop
+sub-loop c = search needs
+
 mul-lanes : tie.Need-mul-lanes Inv-loop μ-loop
 mul-lanes c = search needs
 
@@ -94,6 +97,7 @@ words-spec =
     Inv-loop
     μ-loop
     loop-holds
+    sub-loop
     mul-lanes
     array-read-lanes
     read-little64-requires
