@@ -38,4 +38,5 @@ settled-books =
       bucket-0-count = refl;
       last-gives = refl;
       last-overfull = refl;
+      listed-book = refl;
     }
