@@ -20,9 +20,12 @@ def line_at(text, place):
 class Item:
     """A function, type, constant or module of a crate. Its path is modules, then the type of an `impl`, then its name."""
 
-    def __init__(self, crate, file, line, kind, path, public=False, exported=False, method=False, contract=()):
+    def __init__(self, crate, file, line, kind, path, public=False, exported=False, method=False, signature='', contract=()):
         self.crate, self.file, self.line, self.kind, self.path = crate, file, line, kind, path
         self.public, self.exported, self.method, self.contract = public, exported, method, contract
+        self.parameters = re.findall(r'\bself\b|\b\w+(?=\s*:)', signature)
+        self.written = re.findall(r"\b(\w+)\s*:\s*&(?:'\w+\s+)?mut\b", signature)
+        self.hands_back = '->' in signature
         self.name = '::'.join((crate,) + path)
 
     def answers(self, mention):
@@ -54,15 +57,17 @@ def closing(text, at):
 
 
 def contract_after(text, at):
-    """The clauses that follow a function's name, as (word, line), and where its body begins."""
-    clauses = []
+    """What follows a function's name up to its clauses, these as (word, line, text), and where its body begins."""
+    signature, clauses = '', []
     while (brace := text.find('{', at)) >= 0:
         word = re.search(r'\b(requires|ensures)\b', text[at:brace])
+        signature = signature or text[at:at + word.start() if word else brace]
         if not word:
-            return clauses, brace
-        clauses.append((word.group(), line_at(text, at + word.start())))
-        at = closing(text, brace)
-    return clauses, len(text)
+            return signature, clauses, brace
+        end = closing(text, brace)
+        clauses.append((word.group(), line_at(text, at + word.start()), text[brace:end]))
+        at = end
+    return signature, clauses, len(text)
 
 
 def items(crate, file, text):
@@ -78,10 +83,10 @@ def items(crate, file, text):
         if m['block']:
             owners.append((m['block'], m['owner']))
         elif m['fn']:
-            contract, at = contract_after(text, at)
+            signature, contract, at = contract_after(text, at)
             method = any(kind == 'impl' for kind, _ in owners)
             public, exported = bool(m['pub']), bool(m['pub'] and m['extern'])
-            found.append(Item(crate, file, line, 'fn', path + (m['fn'],), public, exported, method, contract))
+            found.append(Item(crate, file, line, 'fn', path + (m['fn'],), public, exported, method, signature, contract))
         elif m['item']:
             found.append(Item(crate, file, line, m['kind'], path + (m['item'],)))
         elif m.group() == '{':
@@ -92,6 +97,22 @@ def items(crate, file, text):
 
 
 # ---- antt
+
+def used(text):
+    """What a file takes from others, by the name that it gives it."""
+    taken = [(path, *name.split(' as ')) for path, names in re.findall(r'\buse\s+(\S+)\.\{([^}]*)\}', text) for name in names.split(', ')]
+    return {name[-1]: f'{path}.{name[0]}' for path, *name in taken}
+
+
+def theorem(text, name):
+    """The parameters of the module that a name is declared in, and its type."""
+    outside = ''
+    for m in re.finditer(r'^module _ (.*) where$|^( *)(?:pub )?(\S+) :((?:.*\n)(?:\2 +\S.*\n)*)', text, re.M):
+        outside = m[1] or outside
+        if m[3] == name:
+            return (outside if m[2] else '', m[4])
+    return '', ''
+
 
 def declared(text):
     """The names that an .antt file declares at its own level or at that of a `module _`."""

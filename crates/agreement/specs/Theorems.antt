@@ -48,7 +48,7 @@ EveryOpening =
     → length overlay ≡ 32 → length buffer ≡ 48 + 145 * capacity
     → Became overlay capacity starting batches s (heard batches (openBytes buffer overlay capacity starting) s)
 
--- .. and offers in another order, some of them twice, are the same offers.
+-- .. and offers in another order, some of them twice, are the same offers: t, s and t again, and s and t.
 abbrev pub OrderAndRepeats : Type 0
 OrderAndRepeats = (s t : List Offer) → SameOffers (s ++ t) (t ++ (s ++ t))
 

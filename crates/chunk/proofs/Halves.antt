@@ -6,8 +6,7 @@ use native.Mathlib.Nat.{suc-add, zero-add, pow-suc, min-zero, zero-min, suc-min-
 use native.Mathlib.Omega.{arith}
 use lib.ListN.{length, take, drop, replicate, length-drop}
 use lib.Seq.{take-nil, drop-nil, length-take-le}
-use Rattle.octets.specs.Bytes.{Bytes}
-use Rattle.keccak.proofs.Theorems.{digest-length, digest-bytes}
+use Rattle.keccak.proofs.Theorems.{digest-length}
 use Rattle.chunk.specs.Tree.{padTo, width, hash, root}
 
 -- ---- zeros behind
@@ -17,12 +16,6 @@ unfolding padTo
 pad-length zero s = refl
 pad-length (suc n) [] = ap suc (pad-length n [])
 pad-length (suc n) (b ∷ s) = ap suc (pad-length n s)
-
-pub pad-bytes : (n : ℕ) (s : List ℕ) → Bytes s → Bytes (padTo n s)
-unfolding padTo
-pad-bytes zero s y = tt
-pad-bytes (suc n) [] y = (omega arith, pad-bytes n [] tt)
-pad-bytes (suc n) (b ∷ s) y = (y .0, pad-bytes n s (y .1))
 
 -- a part of just that many bytes gets none
 pub pad-none : (n : ℕ) (s : List ℕ) → length s ≡ n → padTo n s ≡ s
@@ -124,11 +117,6 @@ pub root-length : (prefix : List ℕ) (l : ℕ) (part : List ℕ) → length par
 unfolding root
 root-length prefix zero part e = e
 root-length prefix (suc l) part e = digest-length (prefix ++ (root prefix l (take (width l) part) ++ root prefix l (drop (width l) part)))
-
-pub root-bytes : (prefix : List ℕ) (l : ℕ) (part : List ℕ) → Bytes part → Bytes (root prefix l part)
-unfolding root
-root-bytes prefix zero part y = y
-root-bytes prefix (suc l) part y = digest-bytes (prefix ++ (root prefix l (take (width l) part) ++ root prefix l (drop (width l) part)))
 
 -- the halves of a part of the next level
 pub left-length : (l : ℕ) (part : List ℕ) → length part ≡ width (suc l) → length (take (width l) part) ≡ width l

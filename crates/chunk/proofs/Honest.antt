@@ -1,4 +1,4 @@
--- The honest proof: its length, its bytes, what a check finds in it, and the nodes that it leads to.
+-- The honest proof: its length, what a check finds in it, and the nodes that it leads to.
 use mathlib.Core.Path.{_≡_, refl, sym, ap, ap₂, _∙_}
 use mathlib.Core.List.{List, _++_, append-assoc}
 use Prim.Native.Nat.{ℕ, zero, suc, _+_, _*_, _/_, _^_, _<_, _≤_}
@@ -6,14 +6,12 @@ use native.Mathlib.Nat.{add-zero, add-suc, suc-add, div-one, le-of-suc-le-suc, z
 use native.Mathlib.Omega.{arith}
 use lib.ListN.{length, take, drop, length-append}
 use lib.Seq.{take-at, drop-at, take-all, drop-append-add}
-use Rattle.octets.specs.Bytes.{Bytes}
-use Rattle.octets.proofs.Bytes.{bytes-append}
 use Rattle.chunk.specs.Tree.{padTo, hash, root, addressOf}
 use Rattle.chunk.specs.Proof.{segmentIn, sisterIn, spanIn, side, paired, climbed, rebuilt, node, beside, sisters, proofOf}
-use Rattle.chunk.proofs.Halves.{pad-length, pad-bytes}
+use Rattle.chunk.proofs.Halves.{pad-length}
 use Rattle.chunk.proofs.Roots.{address-is}
 use Rattle.chunk.proofs.Climbs.{climbed-zero, climbed-suc, rebuilt-is}
-use Rattle.chunk.proofs.Nodes.{part, pair-up, half-index, segment-length, node-length, node-bytes}
+use Rattle.chunk.proofs.Nodes.{part, pair-up, half-index, segment-length, node-length}
 
 drop-past : (a b : List ℕ) (n k : ℕ) → length a ≡ n → drop (n + k) (a ++ b) ≡ drop k b
 drop-past a b n k e = ap (λ (m : ℕ). drop (m + k) (a ++ b)) (sym e) ∙ drop-append-add a b k
@@ -51,14 +49,6 @@ module _ (prefix : List ℕ) (index : ℕ) (bytes : List ℕ) (whole : length by
       ∙ sisters-at rest n (suc l) k (le-of-suc-le-suc h)
       ∙ ap (sister prefix index bytes) (suc-add l k ∙ sym (add-suc l k))
 
-sisters-bytes : (prefix : List ℕ) (index : ℕ) (bytes : List ℕ) → Bytes bytes → (l n : ℕ) → Bytes (sisters prefix index bytes l n)
-unfolding sisters
-sisters-bytes prefix index bytes y l zero = tt
-sisters-bytes prefix index bytes y l (suc n) =
-    bytes-append (sister prefix index bytes l) (sisters prefix index bytes (suc l) n)
-    (node-bytes prefix l (beside (index / 2 ^ l)) bytes y)
-    (sisters-bytes prefix index bytes y (suc l) n)
-
 -- the 4,096 bytes, the segment asked for, and the seven sisters
 abbrev full : List ℕ → List ℕ
 full chunk = padTo 4096 chunk
@@ -68,14 +58,6 @@ segment prefix chunk index = node prefix 0 index (full chunk)
 
 abbrev seven : List ℕ → List ℕ → ℕ → List ℕ
 seven prefix chunk index = sisters prefix index (full chunk) 0 7
-
-pub honest-bytes : (prefix span chunk : List ℕ) (index : ℕ) → Bytes span → Bytes chunk → Bytes (proofOf prefix span chunk index)
-unfolding proofOf
-honest-bytes prefix span chunk index ys yc =
-    let y = pad-bytes 4096 chunk yc in
-    bytes-append (segment prefix chunk index) (seven prefix chunk index ++ span)
-    (node-bytes prefix 0 index (full chunk) y)
-    (bytes-append (seven prefix chunk index) span (sisters-bytes prefix index (full chunk) y 0 7) ys)
 
 module _ (prefix span chunk : List ℕ) (index : ℕ) (inside : index ≤ 127) where
   segment-here : length (segment prefix chunk index) ≡ 32

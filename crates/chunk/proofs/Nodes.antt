@@ -1,23 +1,17 @@
 -- Node n of level l of some bytes: the two nodes below it, and the node beside it.
 use mathlib.Core.Path.{_≡_, refl, sym, ap, ap₂, _∙_}
-use mathlib.Core.List.{List, [], _∷_, _++_}
+use mathlib.Core.List.{List, _++_}
 use Prim.Native.Nat.{ℕ, zero, suc, _+_, _*_, _/_, _%_, _^_, _≤_}
-use native.Mathlib.Nat.{suc-add, zero-add, pow-suc, div-div-eq-div-mul}
+use native.Mathlib.Nat.{pow-suc, div-div-eq-div-mul}
 use native.Mathlib.Omega.{arith}
 use lib.ListN.{length, take, drop, length-drop}
-use lib.Seq.{take-take, take-nil, drop-drop, length-take-le}
-use Rattle.octets.specs.Bytes.{Bytes}
-use Rattle.octets.proofs.Bytes.{bytes-take, bytes-drop}
+use lib.Seq.{take-take, drop-drop, length-take-le}
+use Rattle.octets.proofs.Edits.{part-of-take}
 use Rattle.keccak.proofs.Theorems.{digest-length}
 use Rattle.chunk.specs.Tree.{width, hash, root}
 use Rattle.chunk.specs.Proof.{paired, node, beside}
-use Rattle.chunk.proofs.Halves.{width-suc, root-suc, root-length, root-bytes}
+use Rattle.chunk.proofs.Halves.{width-suc, root-suc, root-length}
 use Rattle.chunk.proofs.Roots.{joined}
-
-drop-take : (a b : ℕ) (s : List ℕ) → drop a (take (a + b) s) ≡ take b (drop a s)
-drop-take zero b s = ap (λ (n : ℕ). take n s) (zero-add b)
-drop-take (suc a) b [] = rw suc-add (sym (take-nil b))
-drop-take (suc a) b (x ∷ s) = rw suc-add (drop-take a b s)
 
 -- the bytes under node n of level l
 abbrev pub part : ℕ → ℕ → List ℕ → List ℕ
@@ -33,7 +27,7 @@ pub right-part : (l n : ℕ) (bytes : List ℕ) → drop (width l) (part (suc l)
 right-part l n bytes =
     let at : n * width (suc l) + width l ≡ (2 * n + 1) * width l = ap (λ (w : ℕ). n * w + width l) (width-suc l) ∙ omega arith in
     ap (λ (w : ℕ). drop (width l) (take w (drop (n * width (suc l)) bytes))) (width-suc l)
-    ∙ drop-take (width l) (width l) (drop (n * width (suc l)) bytes)
+    ∙ part-of-take (width l) (width l) (drop (n * width (suc l)) bytes)
     ∙ ap (take (width l)) (drop-drop (width l) (n * width (suc l)) bytes ∙ ap (λ (k : ℕ). drop k bytes) at)
 
 -- a node and the node beside it, in their order, are the message of the node above
@@ -73,6 +67,3 @@ segment-length prefix n bytes h =
 
 pub node-length : (prefix : List ℕ) (l n : ℕ) (bytes : List ℕ) → length (node prefix (suc l) n bytes) ≡ 32
 node-length prefix l n bytes = ap length (root-suc prefix l (part (suc l) n bytes)) ∙ digest-length (prefix ++ joined prefix l (part (suc l) n bytes))
-
-pub node-bytes : (prefix : List ℕ) (l n : ℕ) (bytes : List ℕ) → Bytes bytes → Bytes (node prefix l n bytes)
-node-bytes prefix l n bytes y = root-bytes prefix l (part l n bytes) (bytes-take (width l) (drop (n * width l) bytes) (bytes-drop (n * width l) bytes y))

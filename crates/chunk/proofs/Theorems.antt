@@ -6,16 +6,15 @@ use mathlib.Core.Logic.{_⊎_}
 use mathlib.Core.List.{List, _++_}
 use Prim.Native.Nat.{ℕ, _-_, _≤_}
 use lib.ListN.{length, replicate}
-use Rattle.octets.specs.Bytes.{Bytes}
 use Rattle.keccak.specs.Collision.{Collision}
-use Rattle.keccak.proofs.Theorems.{digest-length, digest-bytes}
+use Rattle.keccak.proofs.Theorems.{digest-length}
 use Rattle.chunk.specs.Tree.{padTo, hash, root, addressOf, addressHashed}
 use Rattle.chunk.specs.Proof.{rebuilt, checkHashed, proofOf}
 use Rattle.chunk.proofs.Collide.{among-left, among-right, unless}
 use Rattle.chunk.proofs.Padding.{pad-zeros, pad-tells}
 use Rattle.chunk.proofs.Roots.{chunk-same}
 use Rattle.chunk.proofs.Climbs.{proof-same}
-use Rattle.chunk.proofs.Honest.{honest-length, honest-bytes, honest-rebuilt}
+use Rattle.chunk.proofs.Honest.{honest-length, honest-rebuilt}
 use Rattle.chunk.proofs.Checked.{check-among}
 
 -- ---- addresses
@@ -23,10 +22,6 @@ use Rattle.chunk.proofs.Checked.{check-among}
 pub address-length : (prefix span chunk : List ℕ) → length (addressOf prefix span chunk) ≡ 32
 unfolding addressOf
 address-length prefix span chunk = digest-length (prefix ++ (span ++ root prefix 7 (padTo 4096 chunk)))
-
-pub address-bytes : (prefix span chunk : List ℕ) → Bytes (addressOf prefix span chunk)
-unfolding addressOf
-address-bytes prefix span chunk = digest-bytes (prefix ++ (span ++ root prefix 7 (padTo 4096 chunk)))
 
 -- data that differs in trailing zeros alone has one address
 pub trailing-zeros-one-address : (prefix span chunk : List ℕ) (n : ℕ) → addressOf prefix span (chunk ++ replicate n 0) ≡ addressOf prefix span chunk
@@ -58,9 +53,6 @@ two-chunks-collide prefix span chunk span′ chunk′ h h′ differ e = unless d
 
 pub honest-proof-length : (prefix span chunk : List ℕ) (index : ℕ) → length span ≡ 8 → index ≤ 127 → length (proofOf prefix span chunk index) ≡ 264
 honest-proof-length prefix span chunk index h i = honest-length prefix span chunk index i h
-
-pub honest-proof-bytes : (prefix span chunk : List ℕ) (index : ℕ) → Bytes span → Bytes chunk → Bytes (proofOf prefix span chunk index)
-honest-proof-bytes = honest-bytes
 
 -- an honest proof passes, for every chunk and index
 pub honest-proof-passes : (prefix span chunk : List ℕ) (index : ℕ) → length span ≡ 8 → index ≤ 127

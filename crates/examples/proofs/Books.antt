@@ -39,4 +39,5 @@ settled-books =
       bucket-0-count = refl;
       last-gives = refl;
       last-overfull = refl;
+      listed-book = refl;
     }

@@ -4,28 +4,28 @@ use mathlib.Core.List.{List, [], _∷_}
 use Prim.Native.Nat.{ℕ, suc, _+_, _*_}
 use native.Mathlib.Omega.{arith}
 use borrow.Author.Tests.{eq-eqb}
-use lib.ListN.{length, length-append, length-take, length-drop}
+use lib.ListN.{length, length-take, length-drop}
 use Rattle.keccak.proofs.Theorems.{padding-sheet}
 use Rattle.nearness.specs.declared.near.Near.the-variants.{Bits}
 use Rattle.nearness.specs.Bits.{bits, bitsOf, leadingEqual, sharedBits}
 use Rattle.nearness.specs.Near.{nearnessOf}
-use Rattle.nearness.specs.Sheet as near-sheet
-use Rattle.nearness.proofs.Leading.{length-bits}
+use Rattle.nearness.proofs.Shared.{length-bitsOf}
 use Rattle.postage.specs.Sheet as stamp-sheet
 use Rattle.chunk.specs.Segment.{segmentOf}
-use Rattle.examples.specs.Settled.{Settled}
+use Rattle.examples.specs.Settled.{from, Settled}
 
--- ---- equal numbers share all their bits
+-- ---- shared bits
+
+first-bytes : (nearnessOf (from 0x80) (from 0x00) ≡ Bits 0) × (nearnessOf (from 0x12) (from 0x00) ≡ Bits 3)
+unfolding nearnessOf sharedBits bitsOf bits leadingEqual
+first-bytes = (refl, refl)
+
+-- equal numbers share all their bits
 
 leading-self : (xs : List ℕ) → leadingEqual xs xs ≡ length xs
 unfolding leadingEqual
 leading-self [] = refl
 leading-self (x ∷ xs) = rw (eq-eqb x x refl) (ap suc (leading-self xs))
-
-length-bitsOf : (xs : List ℕ) → length (bitsOf xs) ≡ 8 * length xs
-unfolding bitsOf
-length-bitsOf [] = refl
-length-bitsOf (x ∷ xs) = omega (arith, length-append (bits 8 x) (bitsOf xs), length-bits 8 x, length-bitsOf xs)
 
 shared-self : (x : List ℕ) → length x ≡ 32 → sharedBits x x ≡ 256
 unfolding sharedBits
@@ -51,8 +51,8 @@ settled-examples =
       segments-of-33 = refl;
       segments-of-1337 = refl;
       last-of-1337 = last-segment;
-      shared-80-00 = near-sheet.sheet .0;
-      shared-12-00 = near-sheet.sheet .1;
+      shared-80-00 = first-bytes .0;
+      shared-12-00 = first-bytes .1;
       shared-equal = near-self;
       bucket-12-34 = stamp-sheet.sheet .0;
       index-1-allowed = stamp-sheet.sheet .1;

@@ -1,5 +1,5 @@
--- Document 01's settled examples of a seventeenth slot, on bytes: "Capacity 16, starting depth 0, overlay zero". A field a fact, in its
--- words and order.
+-- Document 01's settled examples of a seventeenth slot, and the book of its listing, on bytes: "Capacity 16, starting depth 0, overlay
+-- zero". A field a fact, in its words and order.
 use mathlib.Core.Path.{_≡_}
 use mathlib.Core.List.{List, [], _∷_, _++_}
 use Prim.Native.Nat.{ℕ, zero, suc}
@@ -8,6 +8,8 @@ use Rattle.octets.specs.Number.{bytesOf}
 use Rattle.postage.specs.Stamp.{bucketOf}
 use Rattle.reserve.specs.Layout.{stateIn, depthIn, countIn}
 use Rattle.reserve.specs.Histories.{Offer, after, answer, heard, opened}
+use Rattle.listing.specs.Sheet.{example}
+use Rattle.examples.specs.Settled as Settled
 use Rattle.examples.specs.Settled.{owner}
 
 -- the owner's batch, with a depth that gives every bucket 32 slots
@@ -56,6 +58,15 @@ unfoldable pub answers : List ℕ → List Offer → List ℕ
 answers book [] = []
 answers book (o ∷ s) = answer batches book o ∷ answers (after batches book o) s
 
+-- the listing's two offers: address bytes x y and zeros, in the batch of depth 17, with a signature of zeros
+abbrev listed : ℕ → ℕ → ℕ → ℕ → Offer
+listed x y index time =
+    record {
+      address = x ∷ y ∷ replicate 30 0;
+      stamp = replicate 32 0x11 ++ (0 ∷ 0 ∷ x ∷ y ∷ [] ++ (bytesOf 4 index ++ (bytesOf 8 time ++ replicate 65 0)));
+      account = owner;
+    }
+
 pub record SettledBooks : Type 0 where
   -- Sixteen slots with first byte 0x80 (nine) and 0x40 (seven): all are kept.
   pub nine-and-seven-kept : answers fresh nineAndSeven ≡ replicate 16 0
@@ -75,3 +86,5 @@ pub record SettledBooks : Type 0 where
   pub bucket-0-count : countIn (bookOf inBucket0) ≡ 16
   pub last-gives : answer batches (bookOf inBucket0) (seventeenth 0x00) ≡ 3
   pub last-overfull : stateIn (after batches (bookOf inBucket0) (seventeenth 0x00)) ≡ 1
+  -- Offered address 80 00 .. 00, index 0, time 100, then address 12 34 00 .. 00, index 1, time 7: the book whose listing is printed.
+  pub listed-book : heard Settled.batches fresh (listed 0x80 0x00 0 100 ∷ listed 0x12 0x34 1 7 ∷ []) ≡ example

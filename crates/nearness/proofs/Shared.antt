@@ -40,7 +40,7 @@ equal-most (x ∷ xs) (y ∷ ys) = go (eqb x y) (equal-most xs ys)
     go true h = omega arith
     go false h = omega arith
 
-length-bitsOf : (a : List ℕ) → length (bitsOf a) ≡ 8 * length a
+pub length-bitsOf : (a : List ℕ) → length (bitsOf a) ≡ 8 * length a
 unfolding bitsOf
 length-bitsOf [] = refl
 length-bitsOf (x ∷ a) = simp length-append (omega (arith, length-bits 8 x, length-bitsOf a))

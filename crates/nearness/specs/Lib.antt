@@ -3,4 +3,3 @@ pub mod Bits
 pub mod Near
 pub mod Proximity
 pub mod Determined
-pub mod Sheet

@@ -1,4 +1,4 @@
--- A round by its rows, and two rounds a turn.
+-- A round by its rows, and a round a turn of the loop.
 use mathlib.Core.Path.{_≡_, refl, ap, ap₂, _∙_, sym}
 use mathlib.Core.List.{List, [], _∷_}
 use Prim.Native.Nat.{ℕ, zero, suc, _+_, _*_, _<_}

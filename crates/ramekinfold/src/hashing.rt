@@ -1,4 +1,4 @@
-// Hashing. Each of these answers 0: any length is taken, and any state.
+// Hashing. None of these refuses: any length is taken, and any state. Where there is an answer, it is 0.
 use keccak::Sponge;
 use keccak::keccak256;
 ghost use mathlib.Core.Path.{_≡_};
