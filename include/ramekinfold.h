@@ -1,9 +1,11 @@
-/* Ramekinfold from C and C++. Link target/staticlib/libramekinfold.a.
+/* Ramekinfold from C and C++, for Linux on x86-64. Link target/staticlib/libramekinfold.a.
  *
  * Every call answers for every input: there is nothing to check first, nothing to free, and no call keeps a pointer.
- * A lent slice is a pointer and its length in bytes; where the length is 0, nothing is read through the pointer.
- * Answers are the numbers of the project's paper. 0 is done, and with an offer 2 and 3 are done too; every other number is a
- * refusal, leaves each lent byte as it was and hands back zeros beside it, but for the place of a chunk that a draw names.
+ * A lent slice is a pointer and its length in bytes; where the length is 0, nothing is read through the pointer. Two things the
+ * caller alone can see to: the bytes are there, and those lent to be written are lent only once in a call.
+ * Answers are the numbers of the project's paper. 0 is done, and with an offer 2 and 3 are done too. 1 says that a proof does not
+ * pass, and numbers from 10 up are refusals: these leave each lent byte as it was and hand back zeros beside the answer, but for
+ * the place of the record that a draw names.
  * What each call promises stands in docs/PROMISES.md.
  */
 #ifndef RAMEKINFOLD_H

@@ -44,6 +44,23 @@ impl Chance {
         bytes
     }
 
+    /// A number that shares exactly so many leading bits with another.
+    pub fn sharing(&mut self, first: &[u8; 32], bits: usize) -> [u8; 32] {
+        let mut second: [u8; 32] = self.array();
+        for at in 0..256.min(bits + 1) {
+            let mask = 0x80 >> (at % 8);
+            let wanted = if at < bits { first[at / 8] } else { !first[at / 8] };
+            second[at / 8] = second[at / 8] & !mask | wanted & mask;
+        }
+        second
+    }
+
+    pub fn shuffle<T>(&mut self, things: &mut [T]) {
+        for last in (1..things.len()).rev() {
+            things.swap(last, self.below(last + 1));
+        }
+    }
+
     /// Cuts bytes into so many parts at random places; parts may be empty.
     pub fn cut<'a>(&mut self, bytes: &'a [u8], parts: usize) -> Vec<&'a [u8]> {
         let mut places: Vec<usize> = (1..parts).map(|_| self.below(bytes.len() + 1)).collect();

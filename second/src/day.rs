@@ -6,14 +6,14 @@
 
 mod making;
 
-use crate::book::{self, Header, HEADER, RECORD};
+use crate::book::{self, Header};
 use crate::chunk::SPAN;
 use crate::draw;
 use crate::keccak::keccak256;
 use crate::made;
 
 /// How many records a machine's book has room for.
-pub const CAPACITY: u64 = 24;
+pub const CAPACITY: usize = 24;
 
 /// An offer as it reaches a machine.
 pub struct Offer {
@@ -75,8 +75,7 @@ impl Day {
 
     /// A machine that hears these offers, in this order, and draws at noon.
     pub fn noon(&self, heard: &[u16]) -> Noon {
-        let mut book = vec![0; HEADER + RECORD * CAPACITY as usize];
-        assert_eq!(book::open(&mut book, &self.overlay, CAPACITY, 0), 0);
+        let mut book = made::fresh(CAPACITY, 0, &self.overlay);
         let mut answers = [0; 23];
         for place in heard {
             let offer = &self.offers[usize::from(*place)];

@@ -36,30 +36,16 @@ fn lines(book: &[u8], header: &Header) -> String {
 #[cfg(test)]
 mod tests {
     use super::*;
-    use crate::book::{offer, open, HEADER, RECORD};
-
-    fn sheet_book() -> Vec<u8> {
-        let mut book = vec![0; HEADER + RECORD * 16];
-        assert_eq!(open(&mut book, &[0; 32], 16, 0), 0);
-        let batches = [&[0x11; 32][..], &[0x22; 20], &[17]].concat();
-        for (first, index, time) in [([0x80, 0x00], 0, 100u64), ([0x12, 0x34], 1, 7)] {
-            let address = [&first[..], &[0; 30]].concat();
-            let stamp = [&[0x11; 32][..], &[0, 0], &first, &[0, 0, 0, index], &time.to_be_bytes(), &[0; 65]].concat();
-            assert_eq!(offer(&mut book, &batches, &address, &stamp, &[0x22; 20]), 0);
-        }
-        book
-    }
+    use crate::made::{fresh, sheet_book, SHEET_LISTING};
 
     #[test]
     fn the_sheet() {
-        let expected = "RSV 1 good 0 0 2 16\n11111111 4660 1 7 12340000 3\n11111111 32768 0 100 80000000 0\n";
-        assert_eq!(listing(&sheet_book()), expected);
+        assert_eq!(listing(&sheet_book()), SHEET_LISTING);
     }
 
     #[test]
     fn other_books() {
-        let mut book = vec![0; HEADER + RECORD * 451];
-        open(&mut book, &[0; 32], 451, 3);
+        let mut book = fresh(451, 3, &[0; 32]);
         assert_eq!(listing(&book), "RSV 1 good 3 3 0 451\n");
         book[5] = 1;
         book[7] = 16;
@@ -68,8 +54,6 @@ mod tests {
         assert_eq!(listing(&[]), "bad book\n");
         assert_eq!(listing(&vec![0; LIMIT]), "bad book\n");
         assert_eq!(listing(&vec![0; LIMIT + 1]), "too large\n");
-        let mut book = vec![0; HEADER + RECORD * 452];
-        open(&mut book, &[0; 32], 452, 0);
-        assert_eq!(listing(&book), "too large\n");
+        assert_eq!(listing(&fresh(452, 0, &[0; 32])), "too large\n");
     }
 }

@@ -110,19 +110,14 @@ pub(crate) fn number(bytes: &[u8]) -> u32 {
 mod tests {
     use super::*;
     use crate::keccak::keccak256;
+    use crate::made::{self, address};
 
-    fn batch(id: u8, owner: u8, depth: u8) -> Vec<u8> {
-        [&[id; 32][..], &[owner; 20], &[depth]].concat()
+    fn batch(id: u8, owner: u8, depth: u8) -> [u8; BATCH] {
+        made::batch(&[id; 32], &[owner; 20], depth)
     }
 
-    fn stamp(id: u8, bucket: u32, index: u32) -> Vec<u8> {
-        [&[id; 32][..], &bucket.to_be_bytes(), &index.to_be_bytes(), &[0; 8], &[0; 65]].concat()
-    }
-
-    fn address(first: [u8; 2]) -> [u8; 32] {
-        let mut address = [0; 32];
-        address[..2].copy_from_slice(&first);
-        address
+    fn stamp(id: u8, bucket: u32, index: u32) -> [u8; STAMP] {
+        made::stamp(&[id; 32], bucket, index, 0, &[0; 65])
     }
 
     #[test]

@@ -11,11 +11,12 @@ use reserve::header::count;
 use reserve::header::depth;
 use reserve::header::overfull;
 use reserve::header::starting_depth;
+use reserve::record::record_at;
 ghost use mathlib.Core.Path.{_≡_};
 ghost use mathlib.Core.List.{[], _∷_, _++_};
 ghost use Prim.Native.Nat.{_+_, _*_, _≤_, _<_};
 ghost use lib.ListN.{length, drop};
-ghost use Rattle.reserve.specs.Layout.{stateIn, overlayIn, cut};
+ghost use Rattle.reserve.specs.Layout.{stateIn, overlayIn, countIn, cut};
 ghost use Rattle.listing.specs.Field.{decimal};
 ghost use Rattle.listing.specs.Line.{space, line, stateWord, headerLine, recordLine, recordLines};
 ghost use Rattle.listing.specs.Put.{Put};
@@ -70,18 +71,16 @@ fn put_state(out: &mut [u8], at: usize, book: &[u8]) -> usize
     put_field(out, at, b"good", b' ')
 }
 
-// A line for each of `count` records.
+// A line for each of the first `count` records.
 pub(crate) fn put_records(out: &mut [u8], at: usize, book: &[u8], count: usize) -> usize
-    requires { ⌜ (at + 126 * count < length (now out)) × (48 + 145 * count ≤ length (now book)) ⌝ }
+    requires { ⌜ (at + 126 * count < length (now out)) × (48 + 145 * count ≤ length (now book)) × (count ≤ countIn (now book)) ⌝ }
     ensures { λ r. ⌜ Put (now (out .entry)) at (recordLines (overlayIn (now (book .entry))) (cut count (drop 48 (now (book .entry))))) (now (out .exit)) r ⌝ }
 {
     let overlay = &book[8..40];
     let mut behind = at;
     let mut i = 0;
     while i < count {
-        let from = 48 + 145 * i;
-        let end = from + 145;
-        behind = put_record(out, behind, &book[from..end], overlay);
+        behind = put_record(out, behind, record_at(book, i), overlay);
         i += 1;
     }
     behind

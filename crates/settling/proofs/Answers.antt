@@ -32,11 +32,11 @@ module _ {A : Type 0} (B : Shape A) where
 
   pub taken-inside : (a : A) (d : ℕ) (l : List A) → d ≤ near (slot a) → taken B a (good d l) ≡ 0
   unfolding taken
-  taken-inside a d l p = rw (le-leb d _ p)
+  taken-inside a d l p = cc (le-leb d _ p)
 
   pub taken-outside : (a : A) (d : ℕ) (l : List A) → near (slot a) < d → taken B a (good d l) ≡ 2
   unfolding taken
-  taken-outside a d l p = rw (lt-leb d _ p)
+  taken-outside a d l p = cc (lt-leb d _ p)
 
   module _ (d : ℕ) (l : List A) (a : A) (near-enough : d ≤ near (slot a)) where
     outcome-near : outcome B (good d l) a ≡ against B a (offer B (good d l) a) (holder B (slot a) l)
@@ -46,11 +46,11 @@ module _ {A : Type 0} (B : Shape A) where
     -- the holder r isn't beaten
     pub outcome-held : (r : A) → holder B (slot a) l ≡ some r → beats a r ≡ false → beats r a ≡ true → outcome B (good d l) a ≡ 22
     unfolding against
-    outcome-held r h u v = outcome-near ∙ rw (h, u, v)
+    outcome-held r h u v = outcome-near ∙ cc (h, u, v)
 
     pub outcome-very : holder B (slot a) l ≡ some a → outcome B (good d l) a ≡ 21
     unfolding against
-    outcome-very h = outcome-near ∙ rw (h, rank .irrefl a)
+    outcome-very h = outcome-near ∙ cc (h, rank .irrefl a)
 
     pub outcome-vacant : holder B (slot a) l ≡ none → outcome B (good d l) a ≡ taken B a (offer B (good d l) a)
     unfolding against

@@ -27,11 +27,11 @@ module _ {A : Type 0} (B : Shape A) where
 
   pub inside-in : (d : ℕ) (r : A) (l : List A) → d ≤ near (slot r) → inside B d (r ∷ l) ≡ r ∷ inside B d l
   unfolding inside
-  inside-in d r l p = rw (le-leb d (near (slot r)) p)
+  inside-in d r l p = cc (le-leb d (near (slot r)) p)
 
   pub inside-out : (d : ℕ) (r : A) (l : List A) → near (slot r) < d → inside B d (r ∷ l) ≡ inside B d l
   unfolding inside
-  inside-out d r l p = rw (lt-leb d (near (slot r)) p)
+  inside-out d r l p = cc (lt-leb d (near (slot r)) p)
 
   -- a smaller depth first changes nothing
   pub inside-inside : (e d : ℕ) (l : List A) → e ≤ d → inside B d (inside B e l) ≡ inside B d l

@@ -7,13 +7,14 @@ use Rattle.settling.specs.Rank.{Rank, higher}
 use Rattle.settling.proofs.Cases.{true-false}
 
 module _ {A : Type 0} (beats : A → A → Bool) where
+  -- An equation a case. By `cc`, here and in later modules: a wrong definition then meets first the equation that it makes false.
   pub higher-second : (a b : A) → beats b a ≡ true → higher beats a b ≡ b
   unfolding higher
-  higher-second a b e = rw e
+  higher-second a b e = cc e
 
   pub higher-first : (a b : A) → beats b a ≡ false → higher beats a b ≡ a
   unfolding higher
-  higher-first a b e = rw e
+  higher-first a b e = cc e
 
   pub data Chosen (a b : A) : Type 0 where
     first : beats b a ≡ false → higher beats a b ≡ a → Chosen a b
@@ -41,7 +42,7 @@ module _ {A : Type 0} {slot : A → ℕ} {beats : A → A → Bool} (R : Rank sl
   higher-comm a b s = go (chosen beats a b) (chosen beats b a)
     where
       go : Chosen beats a b → Chosen beats b a → higher beats a b ≡ higher beats b a
-      go (first t e) (first u f) = e ∙ R .total a b s u t ∙ sym f
+      go (first t e) (first u f) = cc (e, R .total a b s u t, f)
       go (first t e) (second u f) = e ∙ sym f
       go (second t e) (first u f) = e ∙ sym f
       go (second t e) (second u f) = cc (asym b a (sym s) t u)

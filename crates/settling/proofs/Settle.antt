@@ -26,11 +26,11 @@ module _ {A : Type 0} (B : Shape A) where
 
   pub settle-fits : (n d : ℕ) (l : List A) → length (inside B d l) ≤ capacity → settle B (suc n) d l ≡ good d (inside B d l)
   unfolding settle
-  settle-fits n d l p = rw (le-leb _ capacity p)
+  settle-fits n d l p = cc (le-leb _ capacity p)
 
   pub settle-next : (n d : ℕ) (l : List A) → Full l d → settle B (suc n) d l ≡ settle B n (suc d) l
   unfolding settle
-  settle-next n d l p = rw (lt-leb _ capacity p)
+  settle-next n d l p = cc (lt-leb _ capacity p)
 
   -- what a smaller depth drops plays no part
   pub settle-inside : (e n d : ℕ) (l : List A) → e ≤ d → settle B n d (inside B e l) ≡ settle B n d l

@@ -77,8 +77,7 @@ impl House {
 
     fn offer(&self, chance: &mut Chance, pool: &[(usize, [u8; 2], u32)]) -> Offer {
         let (batch, first, index) = pool[chance.below(pool.len())];
-        let mut address = [0; 32];
-        address[..2].copy_from_slice(&first);
+        let mut address = made::address(first);
         address[31] = chance.below(3) as u8;
         let mut signature = [0; 65];
         signature[64] = chance.below(3) as u8;
@@ -116,12 +115,6 @@ fn offered(book: &mut [u8], list: &[u8], offer: &Offer) -> u32 {
     answer
 }
 
-fn shuffle<T>(chance: &mut Chance, items: &mut [T]) {
-    for last in (1..items.len()).rev() {
-        items.swap(last, chance.below(last + 1));
-    }
-}
-
 #[test]
 fn histories_in_several_orders_with_repeats() {
     let mut chance = Chance::new(2_000);
@@ -142,7 +135,7 @@ fn histories_in_several_orders_with_repeats() {
                 _ => {
                     let repeats: Vec<Offer> = offers.iter().filter(|_| chance.once_in(10)).cloned().collect();
                     offers.extend(repeats);
-                    shuffle(&mut chance, &mut offers);
+                    chance.shuffle(&mut offers);
                 }
             }
         }

@@ -24,8 +24,7 @@ impl Good {
         let mut overlay: [u8; 32] = chance.array();
         overlay[0] = 0x5a;
         let batches = made::batch(&ID, &OWNER, 24);
-        let mut book = vec![0; book::HEADER + book::RECORD * CAPACITY];
-        assert_eq!(book::open(&mut book, &overlay, CAPACITY as u64, 2), 0);
+        let mut book = made::fresh(CAPACITY, 2, &overlay);
         let mut one = |index: u32| {
             let mut address: [u8; 32] = chance.array();
             address[0] = 0x40 | address[0] & 0x3f;

@@ -3,10 +3,8 @@
 use face::draw::{draw, Drawn};
 use face::lent::unchanged;
 use second::chance::Chance;
-use second::{book, chunk, made};
+use second::made;
 
-const OWNER: [u8; 20] = [2; 20];
-const ID: [u8; 32] = [9; 32];
 const SAMPLE: usize = 1_024;
 
 /// A book, and the cells of its shelf in record order.
@@ -18,20 +16,10 @@ struct Stock {
 impl Stock {
     /// So many different chunks, and a second slot for so many of them.
     fn random(chance: &mut Chance, chunks: usize, twice: usize) -> Self {
-        let capacity = (chunks + twice).max(16);
-        let mut book = vec![0; book::HEADER + book::RECORD * capacity];
-        assert_eq!(book::open(&mut book, &chance.array::<32>(), capacity as u64, 0), 0);
         let mut all: Vec<([u8; 8], Vec<u8>)> = (0..chunks).map(|_| random_chunk(chance)).collect();
         all.extend_from_within(..twice);
-        let mut cells: Vec<([u8; 40], Vec<u8>)> = Vec::new();
-        for (index, (span, data)) in all.iter().enumerate() {
-            let address = chunk::address(span, data).unwrap();
-            let stamp = made::stamp(&ID, made::bucket(&address), index as u32, chance.word(), &chance.array());
-            assert_eq!(book::offer(&mut book, &made::batch(&ID, &OWNER, 24), &address, &stamp, &OWNER), 0);
-            cells.push((stamp[..40].try_into().unwrap(), made::cell(span, data)));
-        }
-        cells.sort();
-        Stock { book, cells: cells.into_iter().map(|(_, cell)| cell).collect() }
+        let (book, cells) = made::shelved(chance, &all);
+        Stock { book, cells }
     }
 
     fn shelf(&self) -> Vec<u8> {

@@ -1,8 +1,9 @@
 //! The proved listing program, as it was built, against the second program's listing: what it writes for what it reads.
 
+use second::book::HEADER;
 use second::chance::Chance;
 use second::listing::listing;
-use second::{book, made};
+use second::made::{self, fresh, sheet_book, SHEET_LISTING};
 use std::collections::BTreeMap;
 use std::fs::File;
 use std::io::{ErrorKind, Write};
@@ -40,16 +41,12 @@ fn compared(input: &[u8]) -> String {
 
 /// A record that a book of that overlay and depth may hold.
 fn record(chance: &mut Chance, overlay: &[u8; 32], depth: u8, batches: &[[u8; 32]]) -> [u8; 145] {
-    let mut address: [u8; 32] = chance.array();
     let near = match chance.below(4) {
         0 => 256,
         1 => usize::from(depth),
         _ => usize::from(depth) + chance.below(257 - usize::from(depth)),
     };
-    for at in 0..near {
-        let mask = 0x80 >> (at % 8);
-        address[at / 8] = address[at / 8] & !mask | overlay[at / 8] & mask;
-    }
+    let address = chance.sharing(overlay, near);
     let index = [0, (1 << 24) - 1, chance.below(1 << 24), chance.below(12)][chance.below(4)] as u32;
     let time = [0, u64::MAX, chance.word(), chance.word() >> chance.below(64)][chance.below(4)];
     let batch = &batches[chance.below(batches.len())];
@@ -66,47 +63,21 @@ fn filled(chance: &mut Chance, capacity: usize, count: usize) -> Vec<u8> {
         let record = record(chance, &overlay, depth, &batches);
         slots.insert(record[..40].to_vec(), record);
     }
-    let mut bytes = vec![0; book::HEADER + book::RECORD * capacity];
-    assert_eq!(book::open(&mut bytes, &overlay, capacity as u64, chance.below(usize::from(depth) + 1) as u64), 0);
-    bytes[7] = depth;
-    bytes[44..48].copy_from_slice(&(count as u32).to_be_bytes());
-    let records: Vec<_> = slots.into_values().collect();
-    bytes[book::HEADER..][..book::RECORD * count].copy_from_slice(&records.concat());
-    assert_eq!(book::check_book(&bytes), 0);
-    bytes
-}
-
-/// A fresh book.
-fn fresh(capacity: usize, starting_depth: u64) -> Vec<u8> {
-    let mut bytes = vec![0; book::HEADER + book::RECORD * capacity];
-    assert_eq!(book::open(&mut bytes, &[0; 32], capacity as u64, starting_depth), 0);
-    bytes
-}
-
-/// The book of the settled example.
-fn sheet() -> Vec<u8> {
-    let mut bytes = fresh(16, 0);
-    let batch = made::batch(&[0x11; 32], &[0x22; 20], 17);
-    for (first, index, time) in [([0x80, 0x00], 0, 100), ([0x12, 0x34], 1, 7)] {
-        let mut address = [0; 32];
-        address[..2].copy_from_slice(&first);
-        let stamp = made::stamp(&[0x11; 32], made::bucket(&address), index, time, &[0; 65]);
-        assert_eq!(book::offer(&mut bytes, &batch, &address, &stamp, &[0x22; 20]), 0);
-    }
-    bytes
+    let mut book = fresh(capacity, chance.below(usize::from(depth) + 1) as u64, &overlay);
+    book[7] = depth;
+    made::holding(book, &slots.into_values().collect::<Vec<_>>())
 }
 
 #[test]
 fn the_settled_example() {
-    let expected = "RSV 1 good 0 0 2 16\n11111111 4660 1 7 12340000 3\n11111111 32768 0 100 80000000 0\n";
-    assert_eq!(compared(&sheet()), expected);
+    assert_eq!(compared(&sheet_book()), SHEET_LISTING);
 }
 
 #[test]
 fn books_without_records() {
-    assert_eq!(compared(&fresh(16, 0)), "RSV 1 good 0 0 0 16\n");
-    assert_eq!(compared(&fresh(451, 16)), "RSV 1 good 16 16 0 451\n");
-    let mut overfull = fresh(100, 3);
+    assert_eq!(compared(&fresh(16, 0, &[0; 32])), "RSV 1 good 0 0 0 16\n");
+    assert_eq!(compared(&fresh(451, 16, &[0; 32])), "RSV 1 good 16 16 0 451\n");
+    let mut overfull = fresh(100, 3, &[0; 32]);
     overfull[5] = 1;
     overfull[7] = 16;
     assert_eq!(compared(&overfull), "RSV 1 overfull 3 16 0 100\n");
@@ -133,9 +104,9 @@ fn what_is_too_large() {
 #[test]
 fn what_is_no_book() {
     assert_eq!(compared(&[]), "bad book\n");
-    assert_eq!(compared(&[&sheet()[..], b"\0"].concat()), "bad book\n");
-    assert_eq!(compared(&[&sheet()[..], b"\n"].concat()), "bad book\n");
-    assert_eq!(compared(&sheet()[..sheet().len() - 1]), "bad book\n");
+    assert_eq!(compared(&[&sheet_book()[..], b"\0"].concat()), "bad book\n");
+    assert_eq!(compared(&[&sheet_book()[..], b"\n"].concat()), "bad book\n");
+    assert_eq!(compared(&sheet_book()[..sheet_book().len() - 1]), "bad book\n");
 }
 
 #[test]
@@ -147,7 +118,7 @@ fn random_books() {
         let mut book = filled(&mut chance, capacity, count);
         compared(&book);
         // A damaged byte: most often no book, now and then another one.
-        let at = [chance.below(book.len()), chance.below(book::HEADER)][chance.below(2)];
+        let at = [chance.below(book.len()), chance.below(HEADER)][chance.below(2)];
         book[at] ^= 1 << chance.below(8);
         compared(&book);
     }

@@ -10,17 +10,6 @@ fn compared(first: &[u8], second: &[u8]) -> Numbered {
     numbered
 }
 
-/// A number that shares exactly so many leading bits with another.
-fn sharing(chance: &mut Chance, first: &[u8; 32], bits: usize) -> [u8; 32] {
-    let mut second: [u8; 32] = chance.array();
-    for at in 0..256.min(bits + 1) {
-        let mask = 0x80 >> (at % 8);
-        let wanted = if at < bits { first[at / 8] } else { !first[at / 8] };
-        second[at / 8] = second[at / 8] & !mask | wanted & mask;
-    }
-    second
-}
-
 #[test]
 fn shared_prefixes_of_every_length() {
     let mut chance = Chance::new(257);
@@ -31,7 +20,7 @@ fn shared_prefixes_of_every_length() {
             1 => [0xff; 32],
             _ => chance.array(),
         };
-        let second = sharing(&mut chance, &first, bits);
+        let second = chance.sharing(&first, bits);
         let expected = Numbered { answer: 0, number: bits as u32 };
         assert_eq!((compared(&first, &second), compared(&second, &first)), (expected, expected));
     }
@@ -53,7 +42,7 @@ fn numbers_at_any_place_of_a_buffer() {
         let mut buffer = chance.bytes(128);
         let first: [u8; 32] = chance.array();
         let bits = chance.below(257);
-        let second = sharing(&mut chance, &first, bits);
+        let second = chance.sharing(&first, bits);
         buffer[place / 8..][..32].copy_from_slice(&first);
         buffer[64 + place % 8..][..32].copy_from_slice(&second);
         let numbered = compared(&buffer[place / 8..][..32], &buffer[64 + place % 8..][..32]);

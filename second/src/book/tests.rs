@@ -1,28 +1,21 @@
 use super::*;
 use crate::chance::Chance;
+use crate::made::{self, fresh};
 use std::collections::BTreeMap;
 
 const OWNER: [u8; 20] = [0x22; 20];
 
-fn list(depth: u8) -> Vec<u8> {
-    [&[0x11; 32][..], &OWNER, &[depth]].concat()
+fn list(depth: u8) -> [u8; 53] {
+    made::batch(&[0x11; 32], &OWNER, depth)
 }
 
-fn fresh(capacity: u64, starting_depth: u64, overlay: [u8; 32]) -> Vec<u8> {
-    let mut book = vec![0xee; HEADER + RECORD * capacity as usize];
-    assert_eq!(open(&mut book, &overlay, capacity, starting_depth), 0);
-    book
-}
-
-fn stamp(address: &[u8; 32], index: u32, time: u64, signature: u8) -> Vec<u8> {
-    let bucket = u32::from(first_bits(address));
-    [&[0x11; 32][..], &bucket.to_be_bytes(), &index.to_be_bytes(), &time.to_be_bytes(), &[signature; 65]].concat()
+fn stamp(address: &[u8; 32], index: u32, time: u64, signature: u8) -> [u8; 113] {
+    made::stamp(&[0x11; 32], made::bucket(address), index, time, &[signature; 65])
 }
 
 /// Offers the address whose first two bytes are given, at an index of its own.
 fn put(book: &mut [u8], first: [u8; 2], index: u32) -> u32 {
-    let mut address = [0; 32];
-    address[..2].copy_from_slice(&first);
+    let address = made::address(first);
     offer(book, &list(24), &address, &stamp(&address, index, 1, 0), &OWNER)
 }
 
@@ -33,7 +26,7 @@ fn depth_and_count(book: &[u8]) -> (u8, usize) {
 
 #[test]
 fn the_sheet_nine_and_seven() {
-    let mut book = fresh(16, 0, [0; 32]);
+    let mut book = fresh(16, 0, &[0; 32]);
     (0..9).for_each(|index| assert_eq!(put(&mut book, [0x80, 0], index), 0));
     (0..7).for_each(|index| assert_eq!(put(&mut book, [0x40, 0], index), 0));
     assert_eq!(put(&mut book, [0x40, 0], 7), 0);
@@ -43,7 +36,7 @@ fn the_sheet_nine_and_seven() {
 
 #[test]
 fn the_sheet_eight_of_each() {
-    let mut book = fresh(16, 0, [0; 32]);
+    let mut book = fresh(16, 0, &[0; 32]);
     (0..8).for_each(|index| assert_eq!(put(&mut book, [0x80, index as u8], 0), 0));
     (0..8).for_each(|index| assert_eq!(put(&mut book, [0x40, index as u8], 0), 0));
     assert_eq!(put(&mut book, [0x80, 8], 0), 2);
@@ -52,7 +45,7 @@ fn the_sheet_eight_of_each() {
 
 #[test]
 fn the_sheet_seventeen_in_bucket_zero() {
-    let mut book = fresh(16, 0, [0; 32]);
+    let mut book = fresh(16, 0, &[0; 32]);
     (0..16).for_each(|index| assert_eq!(put(&mut book, [0, 0], index), 0));
     assert_eq!(put(&mut book, [0, 0], 16), 3);
     assert_eq!(depth_and_count(&book), (16, 0));
@@ -66,11 +59,11 @@ fn the_sheet_seventeen_in_bucket_zero() {
 
 #[test]
 fn a_rise_passes_depths_that_drop_nothing() {
-    let mut book = fresh(16, 0, [0; 32]);
+    let mut book = fresh(16, 0, &[0; 32]);
     (0..16).for_each(|index| assert_eq!(put(&mut book, [0x04, 0], index), 0));
     assert_eq!(put(&mut book, [0x02, 0], 0), 0);
     assert_eq!(depth_and_count(&book), (6, 1));
-    let mut book = fresh(16, 0, [0; 32]);
+    let mut book = fresh(16, 0, &[0; 32]);
     (0..16).for_each(|index| assert_eq!(put(&mut book, [0x10, 0], index), 0));
     assert_eq!(put(&mut book, [0x80, 0], 0), 2);
     assert_eq!(depth_and_count(&book), (1, 16));
@@ -118,19 +111,19 @@ fn histories_settle_to_the_definition() {
     let mut chance = Chance::new(16);
     let mut overfull = 0;
     for _ in 0..600 {
-        let (capacity, starting_depth) = (16 + chance.below(4) as u64, chance.below(3) as u64);
+        let (capacity, starting_depth) = (16 + chance.below(4), chance.below(3) as u64);
         let slots = 1 + chance.below(24);
-        let mut book = fresh(capacity, starting_depth, [0; 32]);
-        let mut best: BTreeMap<Vec<u8>, Vec<u8>> = BTreeMap::new();
+        let mut book = fresh(capacity, starting_depth, &[0; 32]);
+        let mut best: BTreeMap<Vec<u8>, [u8; RECORD]> = BTreeMap::new();
         for _ in 0..chance.below(120) {
             let mut address = [0; 32];
             address[0] = 1u8.checked_shl(chance.below(12) as u32).unwrap_or(0);
             address[31] = chance.below(3) as u8;
             let stamp = stamp(&address, chance.below(slots) as u32, chance.below(3) as u64, chance.below(2) as u8);
             offer(&mut book, &list(21), &address, &stamp, &OWNER);
-            let record = [&stamp[..48], &address, &stamp[48..]].concat();
+            let record = made::record(&stamp, &address);
             best.entry(record[..SLOT].to_vec())
-                .and_modify(|held| *held = higher(held, &record).to_vec())
+                .and_modify(|held| *held = higher(held, &record).try_into().unwrap())
                 .or_insert(record);
         }
         assert_eq!(book, settled(&best, capacity, starting_depth as u8));
@@ -140,24 +133,24 @@ fn histories_settle_to_the_definition() {
 }
 
 /// The highest rank of each slot, at the least depth at which they fit, or overfull. The overlay is zero.
-fn settled(best: &BTreeMap<Vec<u8>, Vec<u8>>, capacity: u64, starting_depth: u8) -> Vec<u8> {
-    let mut book = fresh(capacity, starting_depth as u64, [0; 32]);
-    let inside = |depth: u8| best.values().filter(move |record| shared(record, 0) >= depth);
-    match (starting_depth..=16).find(|depth| inside(*depth).count() as u64 <= capacity) {
+fn settled(best: &BTreeMap<Vec<u8>, [u8; RECORD]>, capacity: usize, starting_depth: u8) -> Vec<u8> {
+    let mut book = fresh(capacity, starting_depth as u64, &[0; 32]);
+    let inside = |depth: u8| best.values().copied().filter(move |record| shared(record, 0) >= depth);
+    match (starting_depth..=16).find(|depth| inside(*depth).count() <= capacity) {
         Some(depth) => {
             book[7] = depth;
-            set_count(&mut book, inside(depth).count());
-            let bytes: Vec<u8> = inside(depth).flatten().copied().collect();
-            book[HEADER..][..bytes.len()].copy_from_slice(&bytes);
+            made::holding(book, &inside(depth).collect::<Vec<_>>())
         }
-        None => book[5..8].copy_from_slice(&[1, starting_depth, 16]),
+        None => {
+            book[5..8].copy_from_slice(&[1, starting_depth, 16]);
+            book
+        }
     }
-    book
 }
 
 #[test]
 fn refusals_of_an_offer() {
-    let mut book = fresh(16, 0, [0; 32]);
+    let mut book = fresh(16, 0, &[0; 32]);
     let address = [0x80; 32];
     let good = stamp(&address, 0, 5, 5);
     assert_eq!(offer(&mut book, &list(17), &address, &good, &OWNER), 0);

@@ -15,9 +15,7 @@ pub fn batches() -> Vec<u8> {
 
 /// A fresh book with overlay zero and starting depth 0.
 pub fn fresh(capacity: usize) -> Vec<u8> {
-    let mut fresh = vec![0; HEADER + RECORD * capacity];
-    assert_eq!(book::open(&mut fresh, &[0; 32], capacity as u64, 0), 0);
-    fresh
+    made::fresh(capacity, 0, &[0; 32])
 }
 
 /// Address, stamp: what the owner offers.

@@ -17,12 +17,7 @@ fn nearnesses(chance: &mut Chance) -> Vec<Case> {
     let mut cases = Vec::new();
     for shared in [0, 1, 2, 7, 8, 9, 15, 16, 31, 63, 64, 65, 127, 128, 191, 192, 193, 254, 255] {
         let first: [u8; 32] = chance.array();
-        let mut second: [u8; 32] = chance.array();
-        for at in 0..=shared {
-            let bit = 0x80 >> (at % 8);
-            let same = first[at / 8] ^ if at == shared { bit } else { 0 };
-            second[at / 8] = second[at / 8] & !bit | same & bit;
-        }
+        let second = chance.sharing(&first, shared);
         assert_eq!(nearness::shared_bits(&first, &second), shared as u32);
         cases.push(near(&first, &second));
     }

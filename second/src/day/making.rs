@@ -60,8 +60,8 @@ impl Maker {
 
     /// The offers that pass every rule of a stamp. A machine may still refuse them by what it holds.
     fn valid(&mut self) {
-        for class in 0..3 {
-            for _ in 0..PLAIN[class] {
+        for (class, count) in PLAIN.into_iter().enumerate() {
+            for _ in 0..count {
                 let chunk = self.take(class);
                 let stamp = self.stamp(&chunk, 0, 0);
                 self.offer(&chunk, stamp, 0);
@@ -155,7 +155,7 @@ impl Maker {
 
     /// Mixes the stream, lets four machines hear it, and takes some of the sixteen from the fourth.
     fn finished(mut self) -> Day {
-        shuffle(&mut self.chance, &mut self.offers);
+        self.chance.shuffle(&mut self.offers);
         self.chunks.sort_by_key(|chunk| chunk.address);
         self.chunks.dedup_by_key(|chunk| chunk.address);
         let count = self.offers.len() as u16;
@@ -176,7 +176,7 @@ impl Maker {
     fn heard(&mut self, count: u16, mixed: bool, repeats: usize) -> Vec<u16> {
         let mut heard: Vec<u16> = (0..count).collect();
         if mixed {
-            shuffle(&mut self.chance, &mut heard);
+            self.chance.shuffle(&mut heard);
         }
         for _ in 0..repeats {
             let again = heard[self.chance.below(heard.len())];
@@ -230,10 +230,4 @@ fn filled(data: &[u8]) -> Chunk {
 
 fn time(stamp: &[u8; 113]) -> u64 {
     u64::from_be_bytes(stamp[40..48].try_into().unwrap())
-}
-
-fn shuffle<T>(chance: &mut Chance, things: &mut [T]) {
-    for end in (1..things.len()).rev() {
-        things.swap(end, chance.below(end + 1));
-    }
 }

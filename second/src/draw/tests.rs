@@ -1,32 +1,13 @@
 use super::*;
-use crate::book::{self, HEADER, RECORD};
 use crate::chance::Chance;
+use crate::made::{fresh, shelved};
 use std::collections::BTreeSet;
 
-const OWNER: [u8; 20] = [2; 20];
-
-/// A book of these chunks, each in a slot of its own, and its shelf: the cells in record order.
-fn shelved(chunks: &[(Vec<u8>, Vec<u8>)]) -> (Vec<u8>, Vec<Vec<u8>>) {
-    let mut book = vec![0; HEADER + RECORD * 64];
-    book::open(&mut book, &[0; 32], 64, 0);
-    let batches = [&[1; 32][..], &OWNER, &[24]].concat();
-    let mut cells = Vec::new();
-    for (index, (span, data)) in chunks.iter().enumerate() {
-        let address = chunk::address(span, data).unwrap();
-        let slot = [&[1; 32][..], &[0, 0], &address[..2], &(index as u32).to_be_bytes()].concat();
-        let stamp = [&slot[..], &[0; 73]].concat();
-        assert_eq!(book::offer(&mut book, &batches, &address, &stamp, &OWNER), 0);
-        cells.push((slot, [&span[..], &(data.len() as u16).to_be_bytes(), data].concat()));
-    }
-    cells.sort();
-    (book, cells.into_iter().map(|(_, cell)| cell).collect())
-}
-
-fn chunks(chance: &mut Chance, count: usize) -> Vec<(Vec<u8>, Vec<u8>)> {
+fn chunks(chance: &mut Chance, count: usize) -> Vec<([u8; 8], Vec<u8>)> {
     let lengths = [0, 1, 31, 32, 33, 1_000, 4_095, 4_096];
     let chunk = |_| {
         let length = lengths[chance.below(8)];
-        (chance.bytes(8), chance.bytes(length))
+        (chance.array(), chance.bytes(length))
     };
     (0..count).map(chunk).collect()
 }
@@ -37,7 +18,7 @@ fn the_sample_is_the_sixteen_smallest_different_pairs() {
     for count in [16, 17, 40] {
         let mut all = chunks(&mut chance, count);
         all.push(all[3].clone());
-        let (book, cells) = shelved(&all);
+        let (book, cells) = shelved(&mut chance, &all);
         let anchor: [u8; 32] = chance.array();
         let mut sample = [0; SAMPLE];
         let commitment = draw(&book, &cells.concat(), &anchor, &mut sample).unwrap();
@@ -55,9 +36,10 @@ fn the_sample_is_the_sixteen_smallest_different_pairs() {
 
 #[test]
 fn fifteen_distinct_chunks_are_too_few() {
-    let mut all = chunks(&mut Chance::new(15), 15);
+    let mut chance = Chance::new(15);
+    let mut all = chunks(&mut chance, 15);
     all.push(all[0].clone());
-    let (book, cells) = shelved(&all);
+    let (book, cells) = shelved(&mut chance, &all);
     let mut sample = [9; SAMPLE];
     assert_eq!(draw(&book, &cells.concat(), &[0; 32], &mut sample), Err(26.into()));
     assert_eq!(sample, [9; SAMPLE]);
@@ -65,7 +47,9 @@ fn fifteen_distinct_chunks_are_too_few() {
 
 #[test]
 fn refusals_in_their_order() {
-    let (book, cells) = shelved(&chunks(&mut Chance::new(20), 20));
+    let mut chance = Chance::new(20);
+    let all = chunks(&mut chance, 20);
+    let (book, cells) = shelved(&mut chance, &all);
     let shelf = cells.concat();
     let mut sample = [9; SAMPLE + 1];
     let mut refused = |book: &[u8], shelf: &[u8], anchor: usize, output: usize| {
@@ -93,7 +77,7 @@ fn refusals_in_their_order() {
 
 #[test]
 fn an_empty_book_and_an_overfull_one() {
-    let (mut book, _) = shelved(&[]);
+    let mut book = fresh(16, 0, &[0; 32]);
     let mut sample = [9; SAMPLE];
     assert_eq!(draw(&book, &[], &[0; 32], &mut sample), Err(26.into()));
     assert_eq!(draw(&book, &[1], &[0; 32], &mut sample), Err(25.into()));

@@ -1,7 +1,6 @@
 //! Offers, Rattle against the second program: on a full book of 65,536 records, and filling a book from empty.
 
 use face::bench::{compare, growth, timed};
-use second::book::{open, HEADER, RECORD};
 use second::made;
 
 const ID: [u8; 32] = [0x11; 32];
@@ -56,22 +55,16 @@ fn file(call: OfferCall, book: &mut [u8], (address, stamp): &Offer) -> u32 {
 }
 
 fn offer(bucket: u16, index: u32, time: u64) -> Offer {
-    let mut address = [0; 32];
-    address[..2].copy_from_slice(&bucket.to_be_bytes());
+    let address = made::address(bucket.to_be_bytes());
     (address, made::stamp(&ID, u32::from(bucket), index, time, &[7; 65]))
 }
 
 /// A book near the overlay zero that holds one record in each of these buckets.
 fn book(capacity: usize, buckets: impl IntoIterator<Item = u32>) -> Vec<u8> {
-    let mut book = vec![0; HEADER + RECORD * capacity];
-    assert_eq!(open(&mut book, &[0; 32], capacity as u64, 0), 0);
     let records: Vec<[u8; 145]> = buckets
         .into_iter()
         .map(|bucket| offer(bucket as u16, 0, TIME))
         .map(|(address, stamp)| made::record(&stamp, &address))
         .collect();
-    book[44..48].copy_from_slice(&(records.len() as u32).to_be_bytes());
-    book[HEADER..][..RECORD * records.len()].copy_from_slice(&records.concat());
-    assert_eq!(second::book::check_book(&book), 0);
-    book
+    made::holding(made::fresh(capacity, 0, &[0; 32]), &records)
 }

@@ -1,5 +1,5 @@
 -- The loop's invariant: the lines that are yet to be put, behind those that are put, are all.
-use Prim.Native.Nat.{_+_, _-_, _*_, _≤_}
+use Prim.Native.Nat.{_+_, _-_, _*_, _≤_, _<_}
 use mathlib.Core.Path.{_≡_, refl, sym, ap, _∙_}
 use native.Mathlib.Nat.{sub-zero}
 use native.Mathlib.Omega.{arith}
@@ -7,7 +7,8 @@ use borrow.Author.Needs.{needs}
 use lib.ListN.{length, take, drop, length-append}
 use Rattle.octets.specs.Moving.{over}
 use Rattle.octets.proofs.Edits.{part-length, over-nil}
-use Rattle.reserve.specs.Layout.{overlayIn, cut}
+use Rattle.reserve.specs.Layout.{countIn, overlayIn, cut}
+use Rattle.reserve.proofs.Records.{record-bytes, record-length}
 use Rattle.listing.specs.Line.{recordLine, recordLines}
 use Rattle.listing.proofs.Puts
 use Rattle.listing.proofs.Listed
@@ -34,22 +35,22 @@ put-record-requires : tie.Need-put-record-requires Inv-loop μ-loop
 put-record-requires c κs =
     let l = c .before .before .before in
     let s = l .before .before .before .before .args .book .now in
-    let at = 48 + 145 * l .loop .i in
-    let e : at + 145 - at ≡ 145 = omega arith in
-    (omega arith, rw e (part-length s at 145 (omega arith)), part-length s 8 32 (omega arith))
+    let i = l .loop .i in
+    let k : i < countIn s = omega arith in
+    (omega arith, ap length (c .record-at .ensures) ∙ record-length s i k (omega arith), part-length s 8 32 (omega arith))
 
 loop-again : tie.Need-loop-again Inv-loop μ-loop
 loop-again c =
     let w = c .before .before in
-    let l = w .before .before .before .before in
+    let r = w .before in
+    let l = r .before .before .before in
     let a = l .before .before .before .before .args in
     let s = a .book .now in
     let i = l .loop .i in
-    let at = 48 + 145 * i in
-    let e : at + 145 - at ≡ 145 = omega arith in
-    let line = recordLine (overlayIn s) (take 145 (drop at s)) in
+    let k : i < countIn s = omega arith in
+    let line = recordLine (overlayIn s) (take 145 (drop (48 + 145 * i) s)) in
     let rest = recordLines (overlayIn s) (cut (a .count - (i + 1)) (drop (48 + 145 * (i + 1)) s)) in
-    let p = rw e at (w .put-record .ensures .0) in
+    let p = rw (r .record-at .ensures ∙ record-bytes s i k) at (w .put-record .ensures .0) in
     let first = Listed.lines-first (overlayIn s) s (a .count) i (omega arith) in (
       omega arith,
       Puts.put-rest rest (omega arith) p ∙ ap (over (l .loop .out) (l .loop .behind)) (sym first) ∙ l .loop .inv .1,
@@ -80,12 +81,7 @@ put-records-spec =
     (λ c. search needs)
     (λ c. search needs)
     loop-holds
-    (λ c. search needs)
-    (λ c. search needs)
-    (λ c. search needs)
-    (λ c. search needs)
-    (λ c. search needs)
-    (λ c. search needs)
+    (λ c κs. search needs)
     put-record-requires
     (λ c. search needs)
     (λ c. search needs)

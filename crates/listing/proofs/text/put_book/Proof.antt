@@ -28,7 +28,7 @@ put-records-requires c κs =
     let h = c .before .before .before .before in
     let k = h .before .before .before .before in
     let m = Listed.formed-sized (k .args .book .now) (k .pre .1) in
-    (omega (arith, h .put-header .ensures .1, h .put-header .ensures .0 .size, counted c, m .whole, m .within, k .pre .0, k .pre .2), omega (arith, counted c, m .whole, m .within))
+    (omega (arith, h .put-header .ensures .1, h .put-header .ensures .0 .size, counted c, m .whole, m .within, k .pre .0, k .pre .2), omega (arith, counted c, m .whole, m .within), omega (arith, counted c))
 
 returns : tie.Need-returns
 unfolding listing
