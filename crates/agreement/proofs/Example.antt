@@ -21,7 +21,6 @@ use Rattle.reserve.specs.Record.{nearOf}
 use Rattle.reserve.specs.Rank.{rankOrder, beats}
 use Rattle.reserve.specs.Stamps.{stampAnswer}
 use Rattle.reserve.specs.Histories.{Offer, ByteOffer, heard, opened}
-use Rattle.reserve.specs.Layout as Layout
 use Rattle.reserve.specs.Layout.{laid}
 use Rattle.reserve.specs.Check.{labelled, sized, levelled, stands, allStand, rises, zeros, wellFormed}
 use Rattle.reserve.specs.Book.{read, write}
@@ -34,7 +33,7 @@ computed :
     (answers (opened overlay 16 0) these ≡ 0 ∷ 22 ∷ 19 ∷ [])
     × (answers (opened overlay 16 0) those ≡ 19 ∷ 0 ∷ 0 ∷ 22 ∷ [])
     × (heard batches (opened overlay 16 0) these ≡ lateAlone)
-unfolding answers heard overlay batches address stampAt offerBy big bigAt bytesOf byteOrder bits bitsOf leadingEqual sharedBits slotsOf pieces records fit below ordered wellListed find inBucket inSlots isOwner rules checked higher enter inside settle offer holder taken against outcome nearOf rankOrder beats stampAnswer Layout.cut laid read write labelled sized levelled stands allStand rises zeros wellFormed entered offered
+unfolding answers heard overlay batches address stampAt offerBy big bigAt bytesOf byteOrder bits bitsOf leadingEqual sharedBits slotsOf pieces records fit below ordered wellListed find inBucket inSlots isOwner rules checked higher enter inside settle offer holder taken against outcome nearOf rankOrder beats stampAnswer laid read write labelled sized levelled stands allStand rises zeros wellFormed entered offered
 computed = (refl, refl, refl)
 
 -- ---- lent as bytes

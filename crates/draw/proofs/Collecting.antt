@@ -8,7 +8,8 @@ use lib.Dec.{eqb}
 use lib.ListN.{length, take, drop, length-drop}
 use borrow.Author.Tests.{eq-eqb, ne-eqb}
 use Rattle.reserve.specs.Record.{addressIn}
-use Rattle.reserve.specs.Layout.{countIn, cut}
+use Rattle.octets.specs.Pieces as Octets
+use Rattle.reserve.specs.Layout.{countIn}
 use Rattle.draw.specs.declared.answer.DrawAnswer.{DrawAnswer}
 use Rattle.draw.specs.declared.answer.DrawAnswer.the-variants.{Drawn, BadBook, Overfull, WrongLength, ShelfEnds, TooLong, Mismatch, Left, TooFew}
 use Rattle.draw.specs.declared.drawing.CellRead.{CellRead}
@@ -83,7 +84,7 @@ module _ (book shelf anchor : List ℕ) (records : ℕ) (best : List ℕ) where
         inside = omega arith;
         most = omega arith;
         size = h;
-        to-answer = ap (λ (n : ℕ). shelfAnswer 0 (map addressIn (cut n (drop 48 book))) shelf) all;
+        to-answer = ap (λ (n : ℕ). shelfAnswer 0 (map addressIn (Octets.pieces 145 n (drop 48 book))) shelf) all;
         to-gather = sixteen-ahead book shelf anchor ∙ ap₂ (λ (l : List (List ℕ)) (n : ℕ). aheadOf anchor l n shelf) (sym (pieces-none best)) all;
       }
 

@@ -7,11 +7,12 @@ use native.Mathlib.Numerals.{add-one}
 use native.Mathlib.Omega.{arith}
 use lib.ListN.{length, take, drop, length-drop}
 use lib.Seq.{take-take, take-all, drop-drop}
+use Rattle.octets.specs.Pieces.{pieces}
 use Rattle.octets.proofs.Edits.{part-of-take}
 use Rattle.reserve.specs.Record.{addressIn}
-use Rattle.reserve.specs.Layout.{capacityIn, countIn, cut}
+use Rattle.reserve.specs.Layout.{capacityIn, countIn}
 use Rattle.reserve.specs.Check.{labelled, sized, wellFormed}
-use Rattle.reserve.proofs.Cuts.{cut-first, cut-last}
+use Rattle.reserve.proofs.Cuts.{records-from, records-none}
 use Rattle.reserve.proofs.Tested.{sized-true}
 use Rattle.draw.specs.Answer.{andThen}
 use Rattle.draw.specs.Shelf.{pairOf, sizeIn, cellIn, behind, cellsOn, cellAnswer, shelfAnswer}
@@ -21,7 +22,7 @@ use Rattle.draw.proofs.Gathering.{take-gathered}
 
 -- the addresses of the records from place i on
 abbrev pub addressesFrom : ℕ → List ℕ → List (List ℕ)
-addressesFrom i book = map addressIn (cut (countIn book - i) (drop (48 + 145 * i) book))
+addressesFrom i book = map addressIn (pieces 145 (countIn book - i) (drop (48 + 145 * i) book))
 
 -- the address of record i
 abbrev pub addressAt : ℕ → List ℕ → List ℕ
@@ -34,7 +35,7 @@ address-at i book =
     ap (take 32) (part-of-take 48 97 there) ∙ take-take 32 97 (drop 48 there) (omega arith) ∙ ap (take 32) (drop-drop 48 (48 + 145 * i) book ∙ ap (λ (n : ℕ). drop n book) e)
 
 addresses-first : (i : ℕ) (book : List ℕ) → i < countIn book → addressesFrom i book ≡ addressAt i book ∷ addressesFrom (i + 1) book
-addresses-first i book h = ap (map addressIn) (cut-first book (countIn book) i h) ∙ ap (λ (a : List ℕ). a ∷ addressesFrom (i + 1) book) (address-at i book)
+addresses-first i book h = ap (map addressIn) (records-from book (countIn book) i h) ∙ ap (λ (a : List ℕ). a ∷ addressesFrom (i + 1) book) (address-at i book)
 
 -- ---- what is answered
 
@@ -44,7 +45,7 @@ unfolding shelfAnswer
 answer-turn i book s h = ap (λ (l : List (List ℕ)). shelfAnswer i l s) (addresses-first i book h) ∙ rw add-one
 
 pub answer-last : (i : ℕ) (book s : List ℕ) → countIn book ≤ i → shelfAnswer i (addressesFrom i book) s ≡ shelfAnswer i [] s
-answer-last i book s h = ap (λ (l : List (List ℕ)). shelfAnswer i (map addressIn l) s) (cut-last book (countIn book) i h)
+answer-last i book s h = ap (λ (l : List (List ℕ)). shelfAnswer i (map addressIn l) s) (records-none book (countIn book) i h)
 
 -- ---- what is gathered
 

@@ -14,7 +14,6 @@ use Rattle.reserve.specs.Record.{nearOf}
 use Rattle.reserve.specs.Rank.{rankOrder, beats}
 use Rattle.reserve.specs.Stamps.{stampAnswer}
 use Rattle.reserve.specs.Histories.{heard}
-use Rattle.reserve.specs.Layout as Layout
 use Rattle.reserve.specs.Layout.{laid}
 use Rattle.reserve.specs.Check.{labelled, sized, levelled, stands, allStand, rises, zeros, wellFormed}
 use Rattle.reserve.specs.Book.{read, write}
@@ -22,7 +21,7 @@ use Rattle.reserve.specs.Offer.{entered, offered}
 use Rattle.examples.specs.Books.{batches, address, stamp, slotAt, slots, nineAndSeven, eightOfEach, inBucket0, fresh, answers, SettledBooks}
 
 pub settled-books : SettledBooks
-unfolding batches address stamp slotAt slots nineAndSeven eightOfEach inBucket0 fresh answers heard big bigAt bytesOf byteOrder bits bitsOf leadingEqual sharedBits slotsOf pieces records fit below ordered wellListed find inBucket inSlots isOwner rules checked higher enter inside settle offer holder taken against outcome nearOf rankOrder beats stampAnswer Layout.cut laid read write labelled sized levelled stands allStand rises zeros wellFormed entered offered
+unfolding batches address stamp slotAt slots nineAndSeven eightOfEach inBucket0 fresh answers heard big bigAt bytesOf byteOrder bits bitsOf leadingEqual sharedBits slotsOf pieces records fit below ordered wellListed find inBucket inSlots isOwner rules checked higher enter inside settle offer holder taken against outcome nearOf rankOrder beats stampAnswer laid read write labelled sized levelled stands allStand rises zeros wellFormed entered offered
 settled-books =
     record {
       nine-and-seven-kept = refl;

@@ -6,14 +6,15 @@ use Prim.Native.Nat.{ℕ, _+_, _-_, _*_, _≤_, _<_}
 use native.Mathlib.Nat.{zero-add}
 use lib.ListN.{length, take, drop}
 use Rattle.octets.specs.Moving.{over}
+use Rattle.octets.specs.Pieces.{pieces}
 use borrow.Author.Tests.{lt-ltb, le-ltb}
 use Rattle.reserve.specs.declared.check.BookAnswer.the-variants.{WellFormed, NotWellFormed}
-use Rattle.reserve.specs.Layout.{capacityIn, countIn, cut}
+use Rattle.reserve.specs.Layout.{capacityIn, countIn}
 use Rattle.reserve.specs.Check.{labelled, sized, wellFormed, checked}
 use Rattle.reserve.proofs.Truths.{both}
 use Rattle.reserve.proofs.Tested.{Measured, sized-true}
 use Rattle.reserve.proofs.Ways.{formed-as}
-use Rattle.reserve.proofs.Cuts.{cut-first, cut-last}
+use Rattle.reserve.proofs.Cuts.{records-from, records-none}
 use Rattle.listing.specs.Line.{lineFeed, line, recordLine, recordLines}
 use Rattle.listing.specs.Listing.{tooLarge, badBook, listing, printed}
 use Rattle.listing.specs.Put.{Put}
@@ -21,15 +22,15 @@ use Rattle.listing.specs.Put.{Put}
 module _ (overlay s : List ℕ) (n i : ℕ) where
   -- the line of record i, and those behind it
   pub lines-first : i < n
-      → recordLines overlay (cut (n - i) (drop (48 + 145 * i) s))
-      ≡ recordLine overlay (take 145 (drop (48 + 145 * i) s)) ++ recordLines overlay (cut (n - (i + 1)) (drop (48 + 145 * (i + 1)) s))
+      → recordLines overlay (pieces 145 (n - i) (drop (48 + 145 * i) s))
+      ≡ recordLine overlay (take 145 (drop (48 + 145 * i) s)) ++ recordLines overlay (pieces 145 (n - (i + 1)) (drop (48 + 145 * (i + 1)) s))
   unfolding recordLines
-  lines-first h = rw (cut-first s n i h)
+  lines-first h = rw (records-from s n i h)
 
   -- none
-  pub lines-none : n ≤ i → recordLines overlay (cut (n - i) (drop (48 + 145 * i) s)) ≡ []
+  pub lines-none : n ≤ i → recordLines overlay (pieces 145 (n - i) (drop (48 + 145 * i) s)) ≡ []
   unfolding recordLines
-  lines-none h = rw (cut-last s n i h)
+  lines-none h = rw (records-none s n i h)
 
 -- text from the start on
 pub whole : (v : List ℕ) {s w t : List ℕ} {b : ℕ} → v ≡ w → Put s 0 v t b → (b ≡ length w) × (t ≡ over s 0 w)

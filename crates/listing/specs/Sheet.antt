@@ -5,9 +5,10 @@ use Prim.Native.Nat.{ℕ}
 use lib.ListN.{replicate}
 use Rattle.octets.specs.Number.{big, bytesOf}
 use Rattle.octets.specs.Order.{byteOrder}
+use Rattle.octets.specs.Pieces.{pieces}
 use Rattle.nearness.specs.Bits.{bits, bitsOf, leadingEqual, sharedBits}
 use Rattle.settling.specs.Book.{good}
-use Rattle.reserve.specs.Layout.{cut, laid}
+use Rattle.reserve.specs.Layout.{laid}
 use Rattle.reserve.specs.Check.{labelled, sized, levelled, stands, allStand, rises, zeros, wellFormed}
 use Rattle.reserve.specs.Book.{write}
 use Rattle.listing.specs.Field.{digit, digits, decimal, hex}
@@ -61,5 +62,5 @@ example-header = refl
 
 -- and all that is printed for it
 pub example-printed : printed example ≡ firstLine ++ secondLine ++ thirdLine
-unfolding printed listing headerLine recordLine recordLines line stateWord decimal digits digit hex write laid cut bytesOf big byteOrder sharedBits bitsOf bits leadingEqual wellFormed labelled sized levelled stands allStand rises zeros
+unfolding printed listing headerLine recordLine recordLines line stateWord decimal digits digit hex write laid pieces bytesOf big byteOrder sharedBits bitsOf bits leadingEqual wellFormed labelled sized levelled stands allStand rises zeros
 example-printed = refl

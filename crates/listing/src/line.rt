@@ -16,7 +16,8 @@ ghost use mathlib.Core.Path.{_≡_};
 ghost use mathlib.Core.List.{[], _∷_, _++_};
 ghost use Prim.Native.Nat.{_+_, _*_, _≤_, _<_};
 ghost use lib.ListN.{length, drop};
-ghost use Rattle.reserve.specs.Layout.{stateIn, overlayIn, countIn, cut};
+ghost use Rattle.octets.specs.Pieces.{pieces};
+ghost use Rattle.reserve.specs.Layout.{stateIn, overlayIn, countIn};
 ghost use Rattle.listing.specs.Field.{decimal};
 ghost use Rattle.listing.specs.Line.{space, line, stateWord, headerLine, recordLine, recordLines};
 ghost use Rattle.listing.specs.Put.{Put};
@@ -74,7 +75,7 @@ fn put_state(out: &mut [u8], at: usize, book: &[u8]) -> usize
 // A line for each of the first `count` records.
 pub(crate) fn put_records(out: &mut [u8], at: usize, book: &[u8], count: usize) -> usize
     requires { ⌜ (at + 126 * count < length (now out)) × (48 + 145 * count ≤ length (now book)) × (count ≤ countIn (now book)) ⌝ }
-    ensures { λ r. ⌜ Put (now (out .entry)) at (recordLines (overlayIn (now (book .entry))) (cut count (drop 48 (now (book .entry))))) (now (out .exit)) r ⌝ }
+    ensures { λ r. ⌜ Put (now (out .entry)) at (recordLines (overlayIn (now (book .entry))) (pieces 145 count (drop 48 (now (book .entry))))) (now (out .exit)) r ⌝ }
 {
     let overlay = &book[8..40];
     let mut behind = at;

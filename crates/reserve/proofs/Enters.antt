@@ -25,7 +25,7 @@ use Rattle.reserve.specs.Layout.{depthIn, overlayIn, capacityIn, countIn
 use Rattle.reserve.specs.Book.{read}
 use Rattle.reserve.specs.Edit.{Stands}
 use Rattle.reserve.specs.Awaits.{Awaits, AwaitsAt, Contested, Free, Ends}
-use Rattle.reserve.proofs.Cuts.{counted, cut-part}
+use Rattle.reserve.proofs.Cuts.{counted, record-part}
 use Rattle.reserve.proofs.Steps.{kept, ends, ends-same}
 
 beats-less : (a b : List ℕ) → rankOrder a b ≡ Less → beats a b ≡ true
@@ -45,7 +45,7 @@ module _ (s r : List ℕ) (i : ℕ) (w : AwaitsAt s r i) (h : i < countIn s) whe
   found = take (48 + 145 * i + 40 - (48 + 145 * i)) (drop (48 + 145 * i) s)
 
   found-slot : found ≡ take 40 (getD (recordsIn s) i [])
-  found-slot = cut-part (countIn s) s i 40 h (omega arith)
+  found-slot = record-part s (countIn s) i 40 h (omega arith)
 
   pub same-slots : byteOrder (take (48 + 145 * i + 40 - (48 + 145 * i)) (drop (48 + 145 * i) s)) (take 40 r) ≡ Same → slot (getD (recordsIn s) i []) ≡ slot r
   same-slots e = ap big (sym found-slot ∙ same-equal found (take 40 r) e)
@@ -77,7 +77,7 @@ module _ (s r : List ℕ) (i : ℕ) (w : Contested s r i) where
 
   -- the record there, as code takes it
   pub held-part : take (48 + 145 * i + 145 - (48 + 145 * i)) (drop (48 + 145 * i) s) ≡ getD (recordsIn s) i []
-  held-part = cut-part (countIn s) s i 145 (w .there) (omega arith) ∙ take-all 145 held (omega (arith, held-fits .size))
+  held-part = record-part s (countIn s) i 145 (w .there) (omega arith) ∙ take-all 145 held (omega (arith, held-fits .size))
 
   pub held-there : 48 + 145 * (i + 1) ≤ length s
   held-there = omega (arith, w .there, awaits .formed .count, awaits .formed .size)

@@ -7,12 +7,13 @@ use lib.ListN.{length, drop, set, replicate, length-append, length-replicate}
 use lib.Seq.{take-at, drop-at, drop-append-add, drop-append-seam}
 use Rattle.octets.specs.Number.{bytesOf}
 use Rattle.octets.specs.Moving.{over}
+use Rattle.octets.specs.Pieces.{pieces}
 use Rattle.octets.proofs.Numbers.{length-bytesOf, big-bytesOf}
 use Rattle.settling.specs.Book.{overfull, good}
-use Rattle.reserve.specs.Layout.{mark, overlayIn, capacityIn, countIn, laid, cut}
+use Rattle.reserve.specs.Layout.{mark, overlayIn, capacityIn, countIn, laid}
 use Rattle.reserve.specs.Book.{Book, inState, write}
 use Rattle.reserve.specs.Edit.{Stands}
-use Rattle.reserve.proofs.Laid.{length-laid, cut-laid}
+use Rattle.reserve.proofs.Laid.{length-laid, pieces-laid}
 
 unfoldable pub header : ℕ → ℕ → ℕ → List ℕ → ℕ → ℕ → List ℕ
 header flag starting depth overlay capacity count =
@@ -124,8 +125,8 @@ module _ {s : List ℕ} {b : Book} {d : ℕ} {l : List (List ℕ)} (w : Stands s
       ap capacityIn stands-bytes ∙ capacity-there 0 (b .starting) d (b .overlay) (b .capacity) (length l) (laid l ++ zeros b (length l)) (w .overlay) (omega (arith, w .most))
 
   -- the records are those cut behind the header
-  pub stands-records : cut (length l) (drop 48 s) ≡ l
+  pub stands-records : pieces 145 (length l) (drop 48 s) ≡ l
   stands-records =
-      ap (λ (t : List ℕ). cut (length l) (drop 48 t)) stands-bytes
-      ∙ ap (cut (length l)) (drop-at (head b d (length l)) (laid l ++ zeros b (length l)) 48 (stands-head d (length l)))
-      ∙ cut-laid l (zeros b (length l)) (w .records)
+      ap (λ (t : List ℕ). pieces 145 (length l) (drop 48 t)) stands-bytes
+      ∙ ap (pieces 145 (length l)) (drop-at (head b d (length l)) (laid l ++ zeros b (length l)) 48 (stands-head d (length l)))
+      ∙ pieces-laid l (zeros b (length l)) (w .records)

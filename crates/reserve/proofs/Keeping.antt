@@ -8,12 +8,13 @@ use lib.ListN.{length, take, drop, set, replicate, length-set, length-replicate,
 use lib.Seq.{take-at, drop-at, take-all}
 use Rattle.octets.specs.Number.{bytesOf}
 use Rattle.octets.specs.Moving.{over, placed}
+use Rattle.octets.specs.Pieces.{pieces}
 use Rattle.octets.proofs.Numbers.{length-bytesOf}
 use Rattle.octets.proofs.Edits.{placed-fits, length-placed}
 use Rattle.settling.specs.Book.{inside}
 use Rattle.settling.proofs.Inside.{inside-less, each-inside}
 use Rattle.reserve.specs.Shape.{shape, shapeIn}
-use Rattle.reserve.specs.Layout.{cut, laid}
+use Rattle.reserve.specs.Layout.{laid}
 use Rattle.reserve.specs.Book.{Book}
 use Rattle.reserve.specs.Edit.{Stands}
 use Rattle.reserve.specs.Rise.{insideIn, Packed, KeptInside}
@@ -32,7 +33,7 @@ module _ (s : List ℕ) (b : Book) (d : ℕ) (l : List (List ℕ)) (w : Stands s
   same-shape : shapeIn s ≡ shape (b .overlay) (b .capacity)
   same-shape k = shape (stands-overlay w k) (stands-capacity w k)
 
-  same-records : cut count (drop 48 s) ≡ l
+  same-records : pieces 145 count (drop 48 s) ≡ l
   same-records = rw (← many) (stands-records w)
 
   same-inside : (i : ℕ) → insideIn s count depth i ≡ stay (take i l)

@@ -6,9 +6,10 @@ use native.Mathlib.Omega.{arith}
 use lib.ListN.{length, take, drop, set, length-append, take-append-drop}
 use lib.Seq.{take-at, drop-at, take-add, length-take-le}
 use Rattle.octets.specs.Bytes.{Bytes}
+use Rattle.octets.specs.Pieces.{pieces}
 use Rattle.octets.proofs.Bytes.{bytes-append}
 use Rattle.settling.specs.Meaning.{Each}
-use Rattle.reserve.specs.Layout.{cut, laid}
+use Rattle.reserve.specs.Layout.{laid}
 
 -- 145 bytes long
 abbrev pub Sized : List ℕ → Type 0
@@ -84,15 +85,15 @@ module _ (l : List (List ℕ)) (z : List ℕ) (o : Each Sized l) (i : ℕ) (h : 
 
 -- laid again they are the bytes, and cut again the records
 
-pub laid-cut : (n : ℕ) (s : List ℕ) → laid (cut n s) ≡ take (145 * n) s
-unfolding laid cut
-laid-cut zero s = refl
-laid-cut (suc n) s =
+pub laid-pieces : (n : ℕ) (s : List ℕ) → laid (pieces 145 n s) ≡ take (145 * n) s
+unfolding laid pieces
+laid-pieces zero s = refl
+laid-pieces (suc n) s =
     let e : 145 * suc n ≡ 145 + 145 * n = omega arith in
-    rw (e, take-add 145 (145 * n) s, laid-cut n (drop 145 s))
+    rw (e, take-add 145 (145 * n) s, laid-pieces n (drop 145 s))
 
-pub cut-laid : (l : List (List ℕ)) (z : List ℕ) → Each Sized l → cut (length l) (laid l ++ z) ≡ l
-unfolding laid cut
-cut-laid [] z o = refl
-cut-laid (r ∷ l) z o =
-    rw (append-assoc, take-at r (laid l ++ z) 145 (o .0), drop-at r (laid l ++ z) 145 (o .0), cut-laid l z (o .1))
+pub pieces-laid : (l : List (List ℕ)) (z : List ℕ) → Each Sized l → pieces 145 (length l) (laid l ++ z) ≡ l
+unfolding laid pieces
+pieces-laid [] z o = refl
+pieces-laid (r ∷ l) z o =
+    rw (append-assoc, take-at r (laid l ++ z) 145 (o .0), drop-at r (laid l ++ z) 145 (o .0), pieces-laid l z (o .1))

@@ -6,17 +6,18 @@ use native.Mathlib.Omega.{arith}
 use lib.ListN.{length, getD, take, drop, length-append}
 use lib.Seq.{length-take-le, take-take, take-at, drop-drop}
 use Rattle.octets.specs.Moving.{over, lowered}
+use Rattle.octets.specs.Pieces.{pieces}
 use Rattle.octets.proofs.Edits.{part-length, part-of-take, drop-over, lowered-fits, length-lowered}
+use Rattle.octets.proofs.Pieces.{length-pieces}
 use Rattle.settling.specs.Book.{inside}
 use Rattle.settling.proofs.Inside.{inside-nil}
 use Rattle.settling.proofs.Places.{inside-next-in, inside-next-out}
 use Rattle.reserve.specs.Record.{slot, nearOf}
-use Rattle.reserve.specs.Layout.{overlayIn, cut, laid}
+use Rattle.reserve.specs.Layout.{overlayIn, laid}
 use Rattle.reserve.specs.Shape.{shapeIn}
 use Rattle.reserve.specs.Rise.{insideIn, Packed}
 use Rattle.reserve.proofs.Laid.{laid-nil, laid-one, laid-append}
-use Rattle.reserve.proofs.Cuts.{length-cut}
-use Rattle.reserve.proofs.Counting.{record-at}
+use Rattle.reserve.proofs.Cuts.{record-there}
 
 -- up to the end of what is written
 pub over-front : (s : List ℕ) (at : ℕ) (v : List ℕ) (n : ℕ) → n ≡ at + length v → at ≤ length s → take n (over s at v) ≡ take at s ++ v
@@ -50,15 +51,15 @@ module _ (was : List ℕ) (count depth : ℕ) (room : 48 + 145 * count ≤ lengt
 
   module _ (inlist : i < count) (n : ℕ) (near : n ≡ nearOf (overlayIn s) (slot (take 145 (drop (48 + 145 * i) s)))) where
     records : List (List ℕ)
-    records = cut count (drop 48 was)
+    records = pieces 145 count (drop 48 was)
 
     there : take 145 (drop (48 + 145 * i) s) ≡ getD records i []
     unfolding records
-    there = ap (take 145) (w .yet) ∙ record-at was count i inlist
+    there = ap (take 145) (w .yet) ∙ record-there was count i inlist
 
     in-records : i < length records
     unfolding records
-    in-records = omega (arith, inlist, length-cut count (drop 48 was))
+    in-records = omega (arith, inlist, length-pieces 145 count (drop 48 was))
 
     near-there : n ≡ nearOf (overlayIn was) (slot (getD records i []))
     near-there = near ∙ (λ k. nearOf (same-overlay k) (slot (there k)))

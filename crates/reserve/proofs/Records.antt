@@ -1,24 +1,24 @@
 -- One record of a book: its bytes, where the header counts it and where not.
-use mathlib.Core.Path.{_≡_, ap, _∙_, subst}
+use mathlib.Core.Path.{_≡_, sym, ap, _∙_, subst}
 use mathlib.Core.List.{List, []}
 use Prim.Native.Nat.{ℕ, _+_, _*_, _^_, _≤_, _<_}
 use native.Mathlib.Decide.{decLe}
 use native.Mathlib.Omega.{arith}
 use lib.ListN.{length, take, drop, drop-of-length-le, List·getD-eq-default}
-use lib.Seq.{take-nil, drop-drop}
+use lib.Seq.{take-nil}
 use Rattle.octets.specs.Bytes.{Bytes}
 use Rattle.octets.specs.Number.{big, bigAt}
 use Rattle.octets.proofs.Bytes.{bytes-take, bytes-drop}
 use Rattle.octets.proofs.Numbers.{big-lt, bigAt-not}
 use Rattle.octets.proofs.Edits.{part-length}
 use Rattle.reserve.specs.Layout.{countIn, recordsIn, recordIn}
-use Rattle.reserve.proofs.Cuts.{cut-at, counted}
+use Rattle.reserve.proofs.Cuts.{counted, record-there}
 use Rattle.reserve.proofs.Fields.{count-there}
 
 module _ (s : List ℕ) (i : ℕ) where
   pub record-bytes : i < countIn s → recordIn s i ≡ take 145 (drop (48 + 145 * i) s)
   unfolding recordIn
-  record-bytes h = cut-at (countIn s) (drop 48 s) i h ∙ rw (drop-drop (145 * i) 48 s)
+  record-bytes h = sym (record-there s (countIn s) i h)
 
   pub record-length : i < countIn s → 48 + 145 * (i + 1) ≤ length s → length (recordIn s i) ≡ 145
   record-length h k = ap length (record-bytes h) ∙ part-length s (48 + 145 * i) 145 (omega arith)

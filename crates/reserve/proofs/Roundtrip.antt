@@ -11,15 +11,17 @@ use lib.Seq.{take-add, drop-drop, drop-cons}
 use borrow.Author.Tests.{eq-eqb, ne-eqb}
 use Rattle.octets.specs.Bytes.{Bytes}
 use Rattle.octets.specs.Number.{big, bytesOf}
+use Rattle.octets.specs.Pieces.{pieces}
 use Rattle.octets.proofs.Bytes.{bytes-take, bytes-drop}
 use Rattle.octets.proofs.Numbers.{bytesOf-big}
 use Rattle.octets.proofs.Edits.{part-length}
+use Rattle.octets.proofs.Pieces.{pieces-none}
 use Rattle.settling.specs.Book.{State, overfull, good}
-use Rattle.reserve.specs.Layout.{stateIn, startingIn, depthIn, overlayIn, capacityIn, countIn, recordsIn, cut, laid, WellFormed}
+use Rattle.reserve.specs.Layout.{stateIn, startingIn, depthIn, overlayIn, capacityIn, countIn, recordsIn, laid, WellFormed}
 use Rattle.reserve.specs.Book.{Book, flagOf, depthOf, heldBy, read, write}
 use Rattle.reserve.specs.Lawful.{Lawful, Tested, WriteRead, ReadWrite, ReadLawful, WriteWellFormed, CountRecords}
-use Rattle.reserve.proofs.Laid.{laid-cut}
-use Rattle.reserve.proofs.Cuts.{cut-zero, counted}
+use Rattle.reserve.proofs.Laid.{laid-pieces}
+use Rattle.reserve.proofs.Cuts.{counted}
 use Rattle.reserve.proofs.Headed.{header}
 use Rattle.reserve.proofs.Tested as tests
 use Rattle.reserve.proofs.Written
@@ -54,7 +56,7 @@ stated s w = go (decLe (stateIn s) 0)
         let e : stateIn s ≡ 1 = omega (arith, w .state) in
         let r = overfull-read s e in
         let b = w .burst e in
-        record { flag = ap flagOf r ∙ sym e; depth = ap depthOf r ∙ sym (b .0); held = ap heldBy r ∙ sym (ap (λ (n : ℕ). cut n (drop 48 s)) (b .1) ∙ cut-zero (drop 48 s)) }
+        record { flag = ap flagOf r ∙ sym e; depth = ap depthOf r ∙ sym (b .0); held = ap heldBy r ∙ sym (ap (λ (n : ℕ). pieces 145 n (drop 48 s)) (b .1) ∙ pieces-none 145 (drop 48 s)) }
 
 pub count-records : CountRecords
 count-records s w = sym (counted s) ∙ ap length (sym (stated s w .held))
@@ -83,7 +85,7 @@ module _ (s : List ℕ) (b : Bytes s) (w : WellFormed s) where
       rw (number 4 40 (omega arith), number 4 44 (omega arith), take-add 3 45 s, w .marked, take-add 2 43 (drop 3 s), version, drop-drop 2 3 s, take-add 3 40 (drop 5 s), three, drop-drop 3 5 s, take-add 32 8 (drop 8 s), drop-drop 32 8 s, take-add 4 4 (drop 40 s), drop-drop 4 40 s)
 
   records-read : laid (recordsIn s) ++ replicate (145 * (capacityIn s - countIn s)) 0 ≡ drop 48 s
-  records-read = rw (laid-cut (countIn s) (drop 48 s), ← w .cleared, ← drop-drop (145 * countIn s) 48 s) (take-append-drop (145 * countIn s) (drop 48 s))
+  records-read = rw (laid-pieces (countIn s) (drop 48 s), ← w .cleared, ← drop-drop (145 * countIn s) 48 s) (take-append-drop (145 * countIn s) (drop 48 s))
 
 -- the bytes of a value, by what its state says
 abbrev bytesBy : (flag starting depth : ℕ) → List ℕ → ℕ → List (List ℕ) → List ℕ

@@ -22,7 +22,7 @@ use Rattle.reserve.specs.Layout.{mark, markIn, versionIn, stateIn, start
 use Rattle.reserve.specs.Check.{labelled, sized, levelled, stands, allStand, rises, zeros, wellFormed}
 use Rattle.reserve.proofs.Truths.{both, joined}
 use Rattle.reserve.proofs.Laid.{Sized}
-use Rattle.reserve.proofs.Cuts.{each-cut, bytes-cut}
+use Rattle.reserve.proofs.Cuts.{each-sized, each-bytes}
 
 -- mark and version
 
@@ -157,7 +157,7 @@ module _ (s : List ℕ) where
       let m = labelled-true s (p .0) in
       let z = sized-true (length s) (capacityIn s) (countIn s) (q .0) in
       let l = levelled-true (stateIn s) (startingIn s) (depthIn s) (countIn s) (r .0) in
-      let v = stand-true (depthIn s) (overlayIn s) (recordsIn s) (each-cut (countIn s) (drop 48 s) (records-length z)) (bytes-cut (countIn s) (drop 48 s) (bytes-drop 48 s b)) (u .1) in
+      let v = stand-true (depthIn s) (overlayIn s) (recordsIn s) (each-sized (countIn s) (drop 48 s) (records-length z)) (each-bytes (countIn s) (drop 48 s) (bytes-drop 48 s b)) (u .1) in
       record {
         marked = m .0;
         version = m .1;

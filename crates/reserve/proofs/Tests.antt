@@ -15,14 +15,14 @@ use borrow.Author.Tests.{eq-eqb, ne-eqb, eqb-true, eqb-false, le-ltb, lt-ltb}
 use Rattle.octets.specs.Order.{byteOrder, numberOrder, isLess}
 use Rattle.octets.specs.Bytes.{Bytes}
 use Rattle.octets.specs.Number.{big}
+use Rattle.octets.specs.Pieces.{pieces}
 use Rattle.octets.proofs.Bytes.{bytes-take, bytes-drop}
 use Rattle.octets.proofs.Ordered.{compared, number-less, number-same, number-more, order-number}
 use Rattle.octets.proofs.Edits.{part-length}
 use Rattle.reserve.specs.Record.{slot}
-use Rattle.reserve.specs.Layout.{cut}
 use Rattle.reserve.specs.Check.{stands, allStand, rises, zeros}
 use Rattle.reserve.proofs.Truths.{paired}
-use Rattle.reserve.proofs.Cuts.{cut-first, cut-last}
+use Rattle.reserve.proofs.Cuts.{records-from, records-none}
 
 -- zeros
 
@@ -87,13 +87,13 @@ module _ (depth : ℕ) (overlay : List ℕ) where
 
 module _ (s : List ℕ) (n i : ℕ) where
   -- the last record has no neighbour
-  pub last-rises : i + 1 ≡ n → rises (take 2 (cut (n - i) (drop (48 + 145 * i) s))) ≡ true
+  pub last-rises : i + 1 ≡ n → rises (take 2 (pieces 145 (n - i) (drop (48 + 145 * i) s))) ≡ true
   unfolding rises
-  last-rises e = rw (cut-first s n i (omega arith), cut-last s n (i + 1) (omega arith))
+  last-rises e = rw (records-from s n i (omega arith), records-none s n (i + 1) (omega arith))
 
   -- any other stands below the next as the bytes of their slots do
   pub next-rises : Bytes s → i + 1 < n → 48 + 145 * n ≤ length s
-      → rises (take 2 (cut (n - i) (drop (48 + 145 * i) s))) ≡ isLess (byteOrder (take 40 (drop (48 + 145 * i) s)) (take 40 (drop (48 + 145 * (i + 1)) s)))
+      → rises (take 2 (pieces 145 (n - i) (drop (48 + 145 * i) s))) ≡ isLess (byteOrder (take 40 (drop (48 + 145 * i) s)) (take 40 (drop (48 + 145 * (i + 1)) s)))
   unfolding rises
   next-rises b h k =
       let x = drop (48 + 145 * i) s in
@@ -101,7 +101,7 @@ module _ (s : List ℕ) (n i : ℕ) where
       let e : length (take 40 x) ≡ length (take 40 y) = part-length s (48 + 145 * i) 40 (omega arith) ∙ sym (part-length s (48 + 145 * (i + 1)) 40 (omega arith)) in
       let bx : Bytes (take 40 x) = bytes-take 40 x (bytes-drop (48 + 145 * i) s b) in
       let by : Bytes (take 40 y) = bytes-take 40 y (bytes-drop (48 + 145 * (i + 1)) s b) in
-      rw (cut-first s n i (omega arith), cut-first s n (i + 1) h, take-take 40 145 x (omega arith), take-take 40 145 y (omega arith), order-number (take 40 x) (take 40 y) e bx by)
+      rw (records-from s n i (omega arith), records-from s n (i + 1) h, take-take 40 145 x (omega arith), take-take 40 145 y (omega arith), order-number (take 40 x) (take 40 y) e bx by)
       (less-is (big (take 40 x)) (big (take 40 y)))
     where
       less-is : (a c : ℕ) → (ltb a c && true) ≡ isLess (numberOrder a c)
@@ -114,12 +114,12 @@ module _ (s : List ℕ) (n i : ℕ) where
 
   -- a turn of the pass
   pub turn : (depth : ℕ) (overlay : List ℕ) → i < n
-      → bothHold depth overlay (cut (n - i) (drop (48 + 145 * i) s))
+      → bothHold depth overlay (pieces 145 (n - i) (drop (48 + 145 * i) s))
       ≡ (stands depth overlay (take 145 (drop (48 + 145 * i) s))
-      && (rises (take 2 (cut (n - i) (drop (48 + 145 * i) s)))
-      && bothHold depth overlay (cut (n - (i + 1)) (drop (48 + 145 * (i + 1)) s))))
-  turn depth overlay h = rw (cut-first s n i h) (both-first depth overlay (take 145 (drop (48 + 145 * i) s)) (cut (n - (i + 1)) (drop (48 + 145 * (i + 1)) s)))
+      && (rises (take 2 (pieces 145 (n - i) (drop (48 + 145 * i) s)))
+      && bothHold depth overlay (pieces 145 (n - (i + 1)) (drop (48 + 145 * (i + 1)) s))))
+  turn depth overlay h = rw (records-from s n i h) (both-first depth overlay (take 145 (drop (48 + 145 * i) s)) (pieces 145 (n - (i + 1)) (drop (48 + 145 * (i + 1)) s)))
 
-  pub passed : (depth : ℕ) (overlay : List ℕ) → n ≤ i → bothHold depth overlay (cut (n - i) (drop (48 + 145 * i) s)) ≡ true
+  pub passed : (depth : ℕ) (overlay : List ℕ) → n ≤ i → bothHold depth overlay (pieces 145 (n - i) (drop (48 + 145 * i) s)) ≡ true
   unfolding rises allStand
-  passed depth overlay h = rw (cut-last s n i h)
+  passed depth overlay h = rw (records-none s n i h)

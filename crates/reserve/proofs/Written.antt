@@ -7,16 +7,17 @@ use lib.ListN.{length, drop, replicate, length-append, length-replicate}
 use lib.Seq.{drop-at, drop-append-add}
 use Rattle.octets.specs.Bytes.{Bytes}
 use Rattle.octets.specs.Number.{bytesOf}
+use Rattle.octets.specs.Pieces.{pieces}
 use Rattle.octets.proofs.Bytes.{bytes-append, bytes-zeros}
 use Rattle.octets.proofs.Numbers.{bytes-bytesOf}
 use Rattle.settling.specs.Book.{State, overfull, good}
 use Rattle.settling.specs.Meaning.{Each}
 use Rattle.settling.proofs.Inside.{each-map}
 use Rattle.reserve.specs.Record.{Fitting}
-use Rattle.reserve.specs.Layout.{stateIn, startingIn, depthIn, overlayIn, capacityIn, countIn, recordsIn, cut, laid}
+use Rattle.reserve.specs.Layout.{stateIn, startingIn, depthIn, overlayIn, capacityIn, countIn, recordsIn, laid}
 use Rattle.reserve.specs.Book.{Book, flagOf, depthOf, heldBy, write}
 use Rattle.reserve.specs.Lawful.{Lawful}
-use Rattle.reserve.proofs.Laid.{Sized, length-laid, bytes-laid, cut-laid}
+use Rattle.reserve.proofs.Laid.{Sized, length-laid, bytes-laid, pieces-laid}
 use Rattle.reserve.proofs.Headed.{header, length-header, overlay-there, capacity-there, count-there}
 
 module _ (b : Book) where
@@ -70,7 +71,7 @@ module _ (b : Book) where
     behind-written = ap (drop 48) write-parts ∙ drop-at head (laid held ++ left) 48 long
 
     pub records-written : recordsIn (write b) ≡ held
-    records-written = (λ k. cut (count-written k) (behind-written k)) ∙ cut-laid held left sized
+    records-written = (λ k. pieces 145 (count-written k) (behind-written k)) ∙ pieces-laid held left sized
 
     pub tail-written : drop (48 + 145 * length held) (write b) ≡ left
     tail-written =

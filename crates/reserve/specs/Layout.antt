@@ -2,9 +2,10 @@
 -- 1 overfull), starting depth (1), depth (1), overlay (32), capacity (4), count (4)", then the records.
 use mathlib.Core.List.{List, [], _∷_, _++_}
 use mathlib.Core.Path.{_≡_}
-use Prim.Native.Nat.{ℕ, zero, suc, _+_, _-_, _*_, _≤_, _<_}
+use Prim.Native.Nat.{ℕ, _+_, _-_, _*_, _≤_, _<_}
 use lib.ListN.{length, getD, take, drop, replicate}
 use Rattle.octets.specs.Number.{big}
+use Rattle.octets.specs.Pieces.{pieces}
 use Rattle.nearness.specs.Bits.{sharedBits}
 use Rattle.settling.specs.Meaning.{Each}
 use Rattle.reserve.specs.Record.{slot, addressIn, Fitting}
@@ -37,13 +38,9 @@ capacityIn s = big (take 4 (drop 40 s))
 abbrev pub countIn : List ℕ → ℕ
 countIn s = big (take 4 (drop 44 s))
 
--- the first n records of what follows the header
-unfoldable pub cut : ℕ → List ℕ → List (List ℕ)
-cut zero s = []
-cut (suc n) s = take 145 s ∷ cut n (drop 145 s)
-
+-- as many as the header counts
 abbrev pub recordsIn : List ℕ → List (List ℕ)
-recordsIn s = cut (countIn s) (drop 48 s)
+recordsIn s = pieces 145 (countIn s) (drop 48 s)
 
 -- record i of a book, from 0; no bytes where there is none
 unfoldable pub recordIn : List ℕ → ℕ → List ℕ

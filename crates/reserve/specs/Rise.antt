@@ -3,15 +3,16 @@ use mathlib.Core.List.{List, _++_}
 use mathlib.Core.Path.{_≡_}
 use Prim.Native.Nat.{ℕ, _+_, _*_}
 use lib.ListN.{length, take, drop}
+use Rattle.octets.specs.Pieces.{pieces}
 use Rattle.settling.specs.Book.{inside}
 use Rattle.reserve.specs.Shape.{shape, shapeIn}
-use Rattle.reserve.specs.Layout.{cut, laid}
+use Rattle.reserve.specs.Layout.{laid}
 use Rattle.reserve.specs.Book.{Book}
 use Rattle.reserve.specs.Edit.{Stands}
 
 -- of the first i of `count` records of a book those inside the depth
 abbrev pub insideIn : List ℕ → ℕ → ℕ → ℕ → List (List ℕ)
-insideIn s count depth i = inside (shapeIn s) depth (take i (cut count (drop 48 s)))
+insideIn s count depth i = inside (shapeIn s) depth (take i (pieces 145 count (drop 48 s)))
 
 -- A pass over the records of the book `was`, which stands at place i: the j that stay so far are at the front, the others yet to come
 -- where they were.

@@ -13,7 +13,8 @@ ghost use mathlib.Core.Path.{_≡_};
 ghost use mathlib.Core.Bool.{_&&_};
 ghost use Prim.Native.Nat.{_+_, _-_, _*_, _≤_, _<_};
 ghost use lib.ListN.{length, take, drop};
-ghost use Rattle.reserve.specs.Layout.{cut, depthIn, overlayIn};
+ghost use Rattle.octets.specs.Pieces.{pieces};
+ghost use Rattle.reserve.specs.Layout.{depthIn, overlayIn};
 ghost use Rattle.reserve.specs.Check.{labelled, sized, levelled, stands, allStand, rises, zeros, checked, bookNumber};
 
 // What is said of bytes that are to be a book.
@@ -113,7 +114,7 @@ fn is_levelled(state: u8, starting: u8, depth: u8, count: usize) -> bool
 // Whether each of `count` records stands and each slot is below the next one's: both in one pass over the bytes.
 fn records_stand(book: &[u8], count: usize) -> bool
     requires { ⌜ 48 + 145 * count ≤ length (now book) ⌝ }
-    ensures { λ r. ⌜ r ≡ (rises (cut count (drop 48 (now (book .entry)))) && allStand (depthIn (now (book .entry))) (overlayIn (now (book .entry))) (cut count (drop 48 (now (book .entry))))) ⌝ }
+    ensures { λ r. ⌜ r ≡ (rises (pieces 145 count (drop 48 (now (book .entry)))) && allStand (depthIn (now (book .entry))) (overlayIn (now (book .entry))) (pieces 145 count (drop 48 (now (book .entry))))) ⌝ }
 {
     let depth = depth(book);
     let overlay = &book[8..40];
@@ -149,7 +150,7 @@ fn record_stands(held: &[u8], overlay: &[u8], depth: u8) -> bool
 // Whether record `i` of `count` is the last, or its slot is below the next one's.
 fn below_next(book: &[u8], i: usize, count: usize) -> bool
     requires { ⌜ (i < count) × (48 + 145 * count ≤ length (now book)) ⌝ }
-    ensures { λ r. ⌜ r ≡ rises (take 2 (cut (count - i) (drop (48 + 145 * i) (now (book .entry))))) ⌝ }
+    ensures { λ r. ⌜ r ≡ rises (take 2 (pieces 145 (count - i) (drop (48 + 145 * i) (now (book .entry))))) ⌝ }
 {
     if i + 1 == count {
         return true;

@@ -7,10 +7,11 @@ ghost use mathlib.Core.List.{List, _∷_};
 ghost use mathlib.Core.Path.{_≡_};
 ghost use Prim.Native.Nat.{ℕ, _+_, _*_, _≤_};
 ghost use lib.ListN.{length, take, drop};
+ghost use Rattle.octets.specs.Pieces.{pieces};
 ghost use Rattle.settling.specs.Tally.{reach, least};
 ghost use Rattle.settling.proofs.Counters.{Counters};
 ghost use Rattle.reserve.specs.Record.{slot, nearOf};
-ghost use Rattle.reserve.specs.Layout.{overlayIn, cut};
+ghost use Rattle.reserve.specs.Layout.{overlayIn};
 ghost use Rattle.reserve.specs.Book.{Book};
 ghost use Rattle.reserve.specs.Edit.{Stands};
 ghost use Rattle.reserve.specs.Shape.{shapeIn};
@@ -45,7 +46,7 @@ pub(crate) fn near_at(book: &[u8], at: usize) -> usize
 pub(crate) fn tally(book: &[u8], count: usize, own: usize) -> [usize; 17]
     requires { ⌜ (count ≤ 65536) × (48 + 145 * count ≤ length (now book)) × (own ≤ 16) ⌝ }
     ensures { λ r. ⌜ ((a : List ℕ) → reach (shapeIn (now (book .entry))) a ≡ own
-        → Counters (shapeIn (now (book .entry))) r (a ∷ cut count (drop 48 (now (book .entry))))) ⌝ }
+        → Counters (shapeIn (now (book .entry))) r (a ∷ pieces 145 count (drop 48 (now (book .entry))))) ⌝ }
 {
     let mut counters = [0; 17];
     let mut i = 0;

@@ -7,7 +7,8 @@ use borrow.Author.Needs.{needs}
 use lib.ListN.{length, take, drop, length-append}
 use Rattle.octets.specs.Moving.{over}
 use Rattle.octets.proofs.Edits.{part-length, over-nil}
-use Rattle.reserve.specs.Layout.{countIn, overlayIn, cut}
+use Rattle.octets.specs.Pieces.{pieces}
+use Rattle.reserve.specs.Layout.{countIn, overlayIn}
 use Rattle.reserve.proofs.Records.{record-bytes, record-length}
 use Rattle.listing.specs.Line.{recordLine, recordLines}
 use Rattle.listing.proofs.Puts
@@ -17,8 +18,8 @@ use Rattle.listing.proofs.line.put_records.Tie as tie
 
 abbrev Inv-loop : tie.InvT-loop
 Inv-loop out₀ at book count overlay behind₀ i₀ out behind i =
-    let all = recordLines (overlayIn book) (cut count (drop 48 book)) in
-    let left = recordLines (overlayIn book) (cut (count - i) (drop (48 + 145 * i) book)) in
+    let all = recordLines (overlayIn book) (pieces 145 count (drop 48 book)) in
+    let left = recordLines (overlayIn book) (pieces 145 (count - i) (drop (48 + 145 * i) book)) in
     (i ≤ count)
     × (over out behind left ≡ over out₀ at all)
     × (behind + length left ≡ at + length all)
@@ -49,7 +50,7 @@ loop-again c =
     let i = l .loop .i in
     let k : i < countIn s = omega arith in
     let line = recordLine (overlayIn s) (take 145 (drop (48 + 145 * i) s)) in
-    let rest = recordLines (overlayIn s) (cut (a .count - (i + 1)) (drop (48 + 145 * (i + 1)) s)) in
+    let rest = recordLines (overlayIn s) (pieces 145 (a .count - (i + 1)) (drop (48 + 145 * (i + 1)) s)) in
     let p = rw (r .record-at .ensures ∙ record-bytes s i k) at (w .put-record .ensures .0) in
     let first = Listed.lines-first (overlayIn s) s (a .count) i (omega arith) in (
       omega arith,

@@ -9,8 +9,8 @@ use lib.ListN.{length, take, drop}
 use Rattle.octets.specs.declared.order.Order.{Order}
 use Rattle.octets.specs.Order.{byteOrder, isLess}
 use Rattle.octets.specs.Bytes.{Bytes}
+use Rattle.octets.specs.Pieces.{pieces}
 use Rattle.octets.proofs.Bytes.{bytes-known}
-use Rattle.reserve.specs.Layout.{cut}
 use Rattle.reserve.specs.Check.{rises}
 use Rattle.reserve.proofs.Tests
 use Rattle.reserve.proofs.check.below_next.Statement.{statement}
@@ -23,7 +23,7 @@ use Rattle.octets.proofs.order.compare.Reads as compare-reads
 told : (s : List ℕ) (n i : ℕ) (o : Order) {b : Bool} → b ≡ isLess o
     → (at next : ℕ) → at ≡ 48 + 145 * i → next ≡ at + 145
     → o ≡ byteOrder (take (at + 40 - at) (drop at s)) (take (next + 40 - next) (drop next s)) → Bytes s → i + 1 < n → 48 + 145 * n ≤ length s
-    → b ≡ rises (take 2 (cut (n - i) (drop (48 + 145 * i) s)))
+    → b ≡ rises (take 2 (pieces 145 (n - i) (drop (48 + 145 * i) s)))
 told s n i o f at next p q e b h k =
     let first : at + 40 - at ≡ 40 = omega arith in
     let second : next + 40 - next ≡ 40 = omega arith in
@@ -41,7 +41,7 @@ abbrev Compared : Type 0
 Compared = lts.After-compare (compare-reads.Asked, compare-reads.Learnt) reads.Pre reads.Post
 
 decided : (w : Compared) {b : Bool} → b ≡ isLess (w .compare .result) → let a = w .before .before .before .before .before .args in
-    b ≡ rises (take 2 (cut (a .count - a .i) (drop (48 + 145 * a .i) (a .book .now))))
+    b ≡ rises (take 2 (pieces 145 (a .count - a .i) (drop (48 + 145 * a .i) (a .book .now))))
 decided w f =
     let k = w .before .before .before .before in
     let a = k .before .args in

@@ -5,7 +5,8 @@ use native.Mathlib.Omega.{arith}
 use borrow.Author.Needs.{needs}
 use borrow.Author.Tests.{not-true, not-false}
 use lib.ListN.{length, drop}
-use Rattle.reserve.specs.Layout.{stateIn, startingIn, depthIn, overlayIn, capacityIn, countIn, recordsIn, cut}
+use Rattle.octets.specs.Pieces.{pieces}
+use Rattle.reserve.specs.Layout.{stateIn, startingIn, depthIn, overlayIn, capacityIn, countIn, recordsIn}
 use Rattle.reserve.specs.Check.{sized, levelled, zeros}
 use Rattle.reserve.proofs.Tests.{bothHold}
 use Rattle.reserve.proofs.Tested.{Measured, sized-true}
@@ -44,7 +45,7 @@ stand : (w : tie.After-records-stand) → let s = w .before .before .before .bef
 stand w =
     let z = w .before .before .before .before .before .before .before in
     let s = z .before .before .before .before .before .before .before .args .book .now in
-    w .records-stand .ensures ∙ ap (λ (n : ℕ). bothHold (depthIn s) (overlayIn s) (cut n (drop 48 s))) (counted (z .before .before))
+    w .records-stand .ensures ∙ ap (λ (n : ℕ). bothHold (depthIn s) (overlayIn s) (pieces 145 n (drop 48 s))) (counted (z .before .before))
 
 zero : (w : tie.After-is-zero) → let s = w .before .before .before .before .before .before .before .before .before .before .before .before .before .before .before .before .args .book .now in
     w .is-zero .result ≡ zeros (drop (48 + 145 * countIn s) s)

@@ -6,8 +6,9 @@ use native.Mathlib.Omega.{arith}
 use borrow.Author.Needs.{needs}
 use borrow.Author.Tests.{not-true, not-false}
 use lib.ListN.{take, drop}
+use Rattle.octets.specs.Pieces.{pieces}
 use Rattle.octets.proofs.Edits.{part-length}
-use Rattle.reserve.specs.Layout.{cut, depthIn, overlayIn}
+use Rattle.reserve.specs.Layout.{depthIn, overlayIn}
 use Rattle.reserve.specs.Check.{stands}
 use Rattle.reserve.proofs.Tests.{bothHold, turn, passed}
 use Rattle.reserve.proofs.check.records_stand.Statement.{statement}
@@ -16,7 +17,7 @@ use Rattle.reserve.proofs.check.records_stand.Tie as tie
 abbrev Inv-loop : tie.InvT-loop
 Inv-loop book count depth overlay i₀ i =
     (i ≤ count)
-    × (bothHold (depthIn book) (overlayIn book) (cut count (drop 48 book)) ≡ bothHold (depthIn book) (overlayIn book) (cut (count - i) (drop (48 + 145 * i) book)))
+    × (bothHold (depthIn book) (overlayIn book) (pieces 145 count (drop 48 book)) ≡ bothHold (depthIn book) (overlayIn book) (pieces 145 (count - i) (drop (48 + 145 * i) book)))
 
 abbrev μ-loop : tie.MeasureT-loop
 μ-loop book count depth overlay i₀ i = count - i

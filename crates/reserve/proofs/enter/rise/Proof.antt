@@ -4,11 +4,12 @@ use mathlib.Core.List.{_∷_}
 use Prim.Native.Nat.{_+_, _≤_, _<_}
 use native.Mathlib.Omega.{arith}
 use lib.ListN.{length, drop}
+use Rattle.octets.specs.Pieces.{pieces}
 use Rattle.settling.specs.Book.{inside}
 use Rattle.settling.specs.Tally.{least}
 use Rattle.settling.proofs.Counters.{Counters}
 use Rattle.reserve.specs.Record.{slot, nearOf}
-use Rattle.reserve.specs.Layout.{depthIn, overlayIn, capacityIn, recordsIn, cut}
+use Rattle.reserve.specs.Layout.{depthIn, overlayIn, capacityIn, recordsIn}
 use Rattle.reserve.specs.Book.{read}
 use Rattle.reserve.specs.Shape.{shapeIn}
 use Rattle.reserve.proofs.Headed.{stands-length}
@@ -46,7 +47,7 @@ counters t =
     let k = t .before .before .before .before .before .before .before .before .before .before .before .before in
     let s = k .args .book .now in
     let r = k .args .given .now in
-    subst (λ n. Counters (shapeIn s) (t .before .tally .result) (r ∷ cut n (drop 48 s))) (k .pre .1) (t .before .tally .ensures r (Rises.reaches s r (k .args .at) (k .pre .0) ∙ sym (own t)))
+    subst (λ n. Counters (shapeIn s) (t .before .tally .result) (r ∷ pieces 145 n (drop 48 s))) (k .pre .1) (t .before .tally .ensures r (Rises.reaches s r (k .args .at) (k .pre .0) ∙ sym (own t)))
 
 found : (t : Least) → let k = t .before .before .before .before .before .before .before .before .before .before .before .before in let s = k .args .book .now in
     t .least-depth .result ≡ least (capacityIn s) (depthIn s + 1) (drop (depthIn s + 1) (t .before .tally .result))

@@ -50,7 +50,7 @@ up w e =
     let key = k .args .key .now in
     let there : middle w < countIn s = omega (arith, k .pre .1) in
     Halves.halves-up s key (k .pre .0) (k .pre .2) (bytes-known key (λ n. l .before .shared-slice-known2 .given n .fits)) (l .loop .lo) (l .loop .hi) (middle w) (l .loop .inv .2) (omega arith) (omega arith)
-    (ap (λ (p : List ℕ). byteOrder p key) (sym (Cuts.cut-part (countIn s) s (middle w) 40 there (omega arith))) ∙ sym (w .compare .ensures) ∙ e)
+    (ap (λ (p : List ℕ). byteOrder p key) (sym (Cuts.record-part s (countIn s) (middle w) 40 there (omega arith))) ∙ sym (w .compare .ensures) ∙ e)
 
 down : (w : Compared) → (w .compare .result ≡ Less → ⊥) → let l = w .before .before .before in let a = l .before .before .before .args in
     Halves.Between (a .book .now) (slot (a .key .now)) (l .loop .lo) (middle w)
@@ -61,7 +61,7 @@ down w e =
     let key = k .args .key .now in
     let there : middle w < countIn s = omega (arith, k .pre .1) in
     Halves.halves-down s key (k .pre .0) (k .pre .2) (bytes-known key (λ n. l .before .shared-slice-known2 .given n .fits)) (l .loop .lo) (l .loop .hi) (middle w) (l .loop .inv .2) (omega arith) (omega arith)
-    (λ f. e (w .compare .ensures ∙ ap (λ (p : List ℕ). byteOrder p key) (Cuts.cut-part (countIn s) s (middle w) 40 there (omega arith)) ∙ f))
+    (λ f. e (w .compare .ensures ∙ ap (λ (p : List ℕ). byteOrder p key) (Cuts.record-part s (countIn s) (middle w) 40 there (omega arith)) ∙ f))
 
 loop-again : tie.Need-loop-again Inv-loop μ-loop
 loop-again c = (omega arith, omega arith, up (c .before .before) (c .enum-told .given .1))

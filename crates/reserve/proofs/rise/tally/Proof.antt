@@ -4,15 +4,15 @@ use mathlib.Core.Path.{_≡_, refl}
 use native.Mathlib.Omega.{arith}
 use Prim.Native.Nat.{_-_, _≤_}
 use lib.ListN.{length, take, drop, length-set}
+use Rattle.octets.specs.Pieces.{pieces}
 use Rattle.settling.proofs.Counters.{Counters, counters-none}
-use Rattle.reserve.specs.Layout.{cut}
 use Rattle.reserve.specs.Shape.{shapeIn}
 use Rattle.reserve.proofs.Counting
 use Rattle.reserve.proofs.rise.tally.Statement.{statement}
 use Rattle.reserve.proofs.rise.tally.Tie as tie
 
 abbrev Inv-loop : tie.InvT-loop
-Inv-loop book count own counters₀ i₀ counters i = (i ≤ count) × (length counters ≡ 17) × Counters (shapeIn book) counters (take i (cut count (drop 48 book)))
+Inv-loop book count own counters₀ i₀ counters i = (i ≤ count) × (length counters ≡ 17) × Counters (shapeIn book) counters (take i (pieces 145 count (drop 48 book)))
 
 abbrev μ-loop : tie.MeasureT-loop
 μ-loop book count own counters₀ i₀ counters i = count - i
