@@ -6,7 +6,7 @@ use Prim.Native.Nat.{ℕ, zero, suc, _+_, _≤_}
 use lib.ListN.{length, take, drop}
 use Rattle.draw.specs.declared.sample.Found.{Found}
 use Rattle.draw.specs.declared.sample.Found.the-variants.{Held, At}
-use Rattle.draw.specs.declared.answer.DrawAnswer.the-variants.{Drawn}
+use Rattle.draw.specs.declared.answer.DrawAnswer.the-variants.{Done}
 use Rattle.draw.specs.declared.drawing.CellRead.{CellRead}
 use Rattle.draw.specs.declared.drawing.Collected.{Collected}
 use Rattle.draw.specs.Shelf.{pairOf, sizeIn, cellIn, cellAnswer, shelfAnswer}
@@ -34,11 +34,11 @@ Belongs found pair held = (placeIn found ≤ length held) × (entered pair held 
 -- what a cell at the head of `rest` answers, how long it is, and what it leaves in the buffer
 pub record ReadsCell (rest address : List ℕ) (place : ℕ) (anchor best : List ℕ) (held : ℕ) (r : CellRead) (after : List ℕ) : Type 0 where
   pub answered : r .answer ≡ cellAnswer place address rest
-  pub measured : r .answer ≡ Drawn → (r .size ≡ 10 + sizeIn rest) × (r .size ≤ length rest)
-  pub most : r .answer ≡ Drawn → (length after ≡ 1024) × (r .held ≤ 16)
-  pub kept : r .answer ≡ Drawn → pieces (r .held) after ≡ take 16 (entered (pairOf anchor (cellIn rest)) (pieces held best))
+  pub measured : r .answer ≡ Done → (r .size ≡ 10 + sizeIn rest) × (r .size ≤ length rest)
+  pub most : r .answer ≡ Done → (length after ≡ 1024) × (r .held ≤ 16)
+  pub kept : r .answer ≡ Done → pieces (r .held) after ≡ take 16 (entered (pairOf anchor (cellIn rest)) (pieces held best))
 
 -- what the walk along the shelf answers, and what it leaves in the buffer
 pub record Collects (book shelf anchor : List ℕ) (r : Collected) (best : List ℕ) : Type 0 where
   pub answered : r .answer ≡ shelfAnswer 0 (addressesIn book) shelf
-  pub kept : r .answer ≡ Drawn → pieces (r .held) best ≡ sixteenDrawn book shelf anchor
+  pub kept : r .answer ≡ Done → pieces (r .held) best ≡ sixteenDrawn book shelf anchor

@@ -10,7 +10,7 @@ use Rattle.draw.proofs.drawing.collect.Statement.{statement}
 use Rattle.draw.proofs.drawing.collect.Tie as tie
 use Rattle.draw.proofs.drawing.collect.Reads as reads
 use Rattle.draw.proofs.drawing.collect.Lts as lts
-use Rattle.draw.proofs.answer.DrawAnswer.is_drawn.Reads as is-drawn-reads
+use Rattle.draw.proofs.answer.DrawAnswer.is_done.Reads as is-done-reads
 use Rattle.draw.proofs.drawing.read_cell.Reads as read-cell-reads
 use Rattle.reserve.proofs.header.count.Reads as count-reads
 
@@ -62,8 +62,8 @@ cast-read-cell c = search needs
 read-cell-requires : tie.Need-read-cell-requires Inv-loop μ-loop
 read-cell-requires c κs = search needs
 
-is-drawn-requires : tie.Need-is-drawn-requires Inv-loop μ-loop
-is-drawn-requires c κs = search needs
+is-done-requires : tie.Need-is-done-requires Inv-loop μ-loop
+is-done-requires c κs = search needs
 
 same-length : tie.Need-same-length Inv-loop μ-loop
 same-length c = search needs
@@ -76,7 +76,7 @@ returns c =
     let l = at .loop in
     let a = at .before .before .before .before .before .before .args in
     walk-refused (a .book .now) (a .shelf .now) (a .anchor .now) (at .before .count .result) (l .best) (l .at) (l .held) (l .i) (l .inv) (omega arith)
-    (w .read-cell .result) _ (w .read-cell .ensures) (sym (d .is-drawn .ensures) ∙ not-true _ (c .if1 .taken))
+    (w .read-cell .result) _ (w .read-cell .ensures) (sym (d .is-done .ensures) ∙ not-true _ (c .if1 .taken))
 
 -- the walk behind a cell that is passed
 turned : (e : tie.Else1 Inv-loop μ-loop) → let w = e .before .before .before .before in
@@ -91,7 +91,7 @@ turned e =
     let l = at .loop in
     let a = at .before .before .before .before .before .before .args in
     walk-turn (a .book .now) (a .shelf .now) (a .anchor .now) (at .before .count .result) (l .best) (l .at) (l .held) (l .i) (l .inv) (omega arith)
-    (w .read-cell .result) _ (w .read-cell .ensures) (sym (d .is-drawn .ensures) ∙ not-false _ (e .if1 .left))
+    (w .read-cell .result) _ (w .read-cell .ensures) (sym (d .is-done .ensures) ∙ not-false _ (e .if1 .left))
 
 add-at : tie.Need-add-at Inv-loop μ-loop
 add-at c = omega (arith, turned (c .before) .inside)
@@ -144,7 +144,7 @@ collect-spec =
     part-read-cell-end-2
     cast-read-cell
     read-cell-requires
-    is-drawn-requires
+    is-done-requires
     same-length
     returns
     add-at
