@@ -7,6 +7,8 @@ use native.Mathlib.Omega.{arith}
 use lib.Dec.{eqb}
 use lib.ListN.{length, take, drop, length-drop}
 use borrow.Author.Tests.{eq-eqb, ne-eqb}
+use Rattle.octets.specs.Pieces.{pieces}
+use Rattle.octets.proofs.Pieces.{length-pieces, pieces-none}
 use Rattle.reserve.specs.Record.{addressIn}
 use Rattle.reserve.specs.Layout.{countIn, cut}
 use Rattle.draw.specs.declared.answer.DrawAnswer.{DrawAnswer}
@@ -15,8 +17,7 @@ use Rattle.draw.specs.declared.drawing.CellRead.{CellRead}
 use Rattle.draw.specs.Answer.{isDone, andThen}
 use Rattle.draw.specs.Shelf.{behind, shelfAnswer}
 use Rattle.draw.specs.Draw.{addressesIn, sixteenDrawn}
-use Rattle.draw.specs.Pieces.{pieces, ReadsCell, Collects}
-use Rattle.draw.proofs.Pieces.{pieces-length, pieces-none}
+use Rattle.draw.specs.Inside.{ReadsCell, Collects}
 use Rattle.draw.proofs.Walking.{addressesFrom, addressAt, answer-turn, answer-last, aheadOf, sixteen-ahead, ahead-turn, ahead-last, rest-is, recorded-is, behind-at}
 
 -- ---- the first refusal speaks
@@ -71,7 +72,7 @@ pub record Walked (book shelf anchor : List ℕ) (records : ℕ) (best : List �
   pub most : held ≤ 16
   pub size : length best ≡ 1024
   pub to-answer : shelfAnswer 0 (addressesIn book) shelf ≡ shelfAnswer i (addressesFrom i book) (drop at shelf)
-  pub to-gather : sixteenDrawn book shelf anchor ≡ aheadOf anchor (pieces held best) (countIn book - i) (drop at shelf)
+  pub to-gather : sixteenDrawn book shelf anchor ≡ aheadOf anchor (pieces 64 held best) (countIn book - i) (drop at shelf)
 
 module _ (book shelf anchor : List ℕ) (records : ℕ) (best : List ℕ) where
   pub walk-starts : records ≡ countIn book → length best ≡ 1024 → Walked book shelf anchor records best 0 0 0
@@ -84,7 +85,7 @@ module _ (book shelf anchor : List ℕ) (records : ℕ) (best : List ℕ) where
         most = omega arith;
         size = h;
         to-answer = ap (λ (n : ℕ). shelfAnswer 0 (map addressIn (cut n (drop 48 book))) shelf) all;
-        to-gather = sixteen-ahead book shelf anchor ∙ ap₂ (λ (l : List (List ℕ)) (n : ℕ). aheadOf anchor l n shelf) (sym (pieces-none best)) all;
+        to-gather = sixteen-ahead book shelf anchor ∙ ap₂ (λ (l : List (List ℕ)) (n : ℕ). aheadOf anchor l n shelf) (sym (pieces-none 64 best)) all;
       }
 
   module _ (at held i : ℕ) (w : Walked book shelf anchor records best at held i) where
@@ -117,7 +118,7 @@ module _ (book shelf anchor : List ℕ) (records : ℕ) (best : List ℕ) where
             size = here .most done .0;
             to-answer = answered-on true h ∙ ap (shelfAnswer (i + 1) (addressesFrom (i + 1) book)) moved;
             to-gather =
-                w .to-gather ∙ ahead-turn anchor (pieces held best) (countIn book) i (drop at shelf) before
+                w .to-gather ∙ ahead-turn anchor (pieces 64 held best) (countIn book) i (drop at shelf) before
                 ∙ ap₂ (λ (l : List (List ℕ)) (s : List ℕ). aheadOf anchor l (countIn book - (i + 1)) s) (sym (here .kept done)) moved;
           }
 
@@ -141,5 +142,5 @@ module _ (book shelf anchor : List ℕ) (records : ℕ) (best : List ℕ) where
       pub walk-ends : length shelf ≤ at → Collects book shelf anchor (record { answer = Done; held = held }) best
       walk-ends h = record {
         answered = sym (nothing-left true (eq-eqb (length (drop at shelf)) 0 (omega (arith, length-drop at shelf))));
-        kept = λ e. sym (w .to-gather ∙ ahead-last anchor (pieces held best) (countIn book) i (drop at shelf) past (omega (arith, pieces-length held best, w .most)));
+        kept = λ e. sym (w .to-gather ∙ ahead-last anchor (pieces 64 held best) (countIn book) i (drop at shelf) past (omega (arith, length-pieces 64 held best, w .most)));
       }

@@ -7,6 +7,8 @@ use native.Mathlib.Omega.{arith}
 use lib.Dec.{ltb}
 use lib.ListN.{length, replicate}
 use borrow.Author.Tests.{lt-ltb, le-ltb}
+use Rattle.octets.specs.Pieces.{pieces}
+use Rattle.octets.proofs.Pieces.{length-pieces}
 use Rattle.chunk.specs.Tree.{addressOf}
 use Rattle.chunk.specs.Answer.{addressed}
 use Rattle.chunk.specs.declared.addresses.Addressed.{Addressed}
@@ -18,8 +20,6 @@ use Rattle.draw.specs.Answer.{isDone, andThen, onlyDone, refused}
 use Rattle.draw.specs.Shelf.{shelfAnswer}
 use Rattle.draw.specs.Sample.{written, sampleSpan, commitmentOf}
 use Rattle.draw.specs.Draw.{addressesIn, sixteenDrawn, lentAnswer, drawAnswer, drawn, sampleAfter}
-use Rattle.draw.specs.Pieces.{pieces}
-use Rattle.draw.proofs.Pieces.{pieces-length}
 use Rattle.draw.proofs.Laying.{written-length}
 use Rattle.draw.proofs.Answered.{sixteen-most, sixteen-sized}
 use Rattle.draw.proofs.Collecting.{done-goes-on, refused-stays}
@@ -74,14 +74,14 @@ module _ (book shelf anchor sample : List ℕ) where
       pub refused-few : length (sixteenDrawn book shelf anchor) < 16 → Given (refused TooFew) sample
       refused-few h = refusal TooFew refl (counted true (lt-ltb _ _ h))
 
-      pub all-done : (best after : List ℕ) (held : ℕ) (r : Addressed) → 16 ≤ held → pieces held best ≡ sixteenDrawn book shelf anchor
-          → after ≡ written (pieces 16 best) → r ≡ addressed [] sampleSpan after → Given (record { answer = Done; commitment = r .digest }) after
+      pub all-done : (best after : List ℕ) (held : ℕ) (r : Addressed) → 16 ≤ held → pieces 64 held best ≡ sixteenDrawn book shelf anchor
+          → after ≡ written (pieces 64 16 best) → r ≡ addressed [] sampleSpan after → Given (record { answer = Done; commitment = r .digest }) after
       unfolding drawn sampleAfter commitmentOf
       all-done best after held r h kept out hashed =
           let chosen = sixteenDrawn book shelf anchor in
-          let number : held ≡ length chosen = sym (pieces-length held best) ∙ ap length kept in
+          let number : held ≡ length chosen = sym (length-pieces 64 held best) ∙ ap length kept in
           let full : held ≡ 16 = omega (arith, sixteen-most book shelf anchor) in
-          let stands : after ≡ written chosen = out ∙ ap (λ (n : ℕ). written (pieces n best)) (sym full) ∙ ap written kept in
+          let stands : after ≡ written chosen = out ∙ ap (λ (n : ℕ). written (pieces 64 n best)) (sym full) ∙ ap written kept in
           let size : length after ≡ 1024 =
           ap length stands ∙ written-length chosen (sixteen-sized book shelf anchor) ∙ ap (λ (n : ℕ). 64 * n) (sym number ∙ full) in
           let digest : r .digest ≡ addressOf [] sampleSpan (written chosen) =

@@ -15,7 +15,7 @@ ghost use Prim.Native.Nat.{_+_, _*_, _≤_};
 ghost use lib.ListN.{length};
 ghost use Rattle.reserve.specs.Layout.{countIn};
 ghost use Rattle.draw.specs.Draw.{lentAnswer, drawn, sampleAfter};
-ghost use Rattle.draw.specs.Pieces.{Collects, ReadsCell};
+ghost use Rattle.draw.specs.Inside.{Collects, ReadsCell};
 
 // How the walk along the shelf ended, and how many pairs are held then.
 pub(crate) struct Collected {

@@ -6,11 +6,10 @@ use native.Mathlib.Omega.{arith}
 use borrow.Author.Needs.{needs}
 use borrow.Author.Tests.{not-true, not-false}
 use lib.ListN.{length}
+use Rattle.octets.proofs.Pieces.{length-pieces}
 use Rattle.draw.specs.declared.answer.DrawAnswer.the-variants.{Done}
 use Rattle.draw.specs.Answer.{isDone}
 use Rattle.draw.specs.Draw.{sixteenDrawn, lentAnswer}
-use Rattle.draw.specs.Pieces.{pieces}
-use Rattle.draw.proofs.Pieces.{pieces-length}
 use Rattle.draw.proofs.Answered.{Lent, lent-done}
 use Rattle.draw.proofs.Walking.{formed-long}
 use Rattle.draw.proofs.Collecting.{is-done}
@@ -100,7 +99,7 @@ returns-3 c =
     let a = e .before .before .before .before .before .before .before .before .args in
     let kept = k .collect .ensures .kept (read f) in
     let few : length (sixteenDrawn (a .book .now) (a .shelf .now) (a .anchor .now)) < 16 =
-    omega (arith, ap length kept, pieces-length (k .collect .result .held) (k .collect .last .1 .1 .1 .0), t .if3 .taken) in
+    omega (arith, ap length kept, length-pieces 64 (k .collect .result .held) (k .collect .last .1 .1 .1 .0), t .if3 .taken) in
     let given = refused-few (a .book .now) (a .shelf .now) (a .anchor .now) (a .sample .now) (lent e) (ap isDone (sym (k .collect .ensures .answered) ∙ read f)) few in
     (c .refused3 .ensures ∙ given .0, given .1)
 

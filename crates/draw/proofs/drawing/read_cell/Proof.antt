@@ -5,8 +5,8 @@ use Prim.Native.Nat.{ℕ, _+_}
 use borrow.Author.Needs.{needs}
 use borrow.Author.Tests.{not-true, not-false}
 use lib.ListN.{take}
+use Rattle.octets.specs.Pieces.{pieces}
 use Rattle.draw.specs.Sample.{entered}
-use Rattle.draw.specs.Pieces.{pieces}
 use Rattle.draw.proofs.Shelves.{Whole, cell-done}
 use Rattle.draw.proofs.Cells.{size-read}
 use Rattle.draw.proofs.Collecting.{is-done, not-refused}
@@ -84,7 +84,7 @@ returns-2 c =
       answered = w .cell-answer .ensures;
       measured = λ _. (ap (λ (k : ℕ). 10 + k) size, rw size (there .3));
       most = λ _. (n .enter .ensures .0, n .enter .ensures .1 .0);
-      kept = λ _. n .enter .ensures .1 .1 ∙ ap (λ (x : List ℕ). take 16 (entered x (pieces (a .held) (a .best .now)))) (p .pair .ensures);
+      kept = λ _. n .enter .ensures .1 .1 ∙ ap (λ (x : List ℕ). take 16 (entered x (pieces 64 (a .held) (a .best .now)))) (p .pair .ensures);
     }
 
 pub read-cell-spec : {M : Type 1} → statement M
