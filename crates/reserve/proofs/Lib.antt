@@ -3,6 +3,7 @@
 -- records in bytes
 pub mod Laid
 pub mod Cuts
+pub mod Records
 pub mod Fields
 pub mod Buckets
 pub mod Slots

@@ -14,7 +14,7 @@ use Rattle.reserve.specs.declared.rank.Choice.{Choice}
 use Rattle.reserve.specs.Choice.{choice, higherOf, placeOf}
 use Rattle.reserve.specs.Answer.{offerNumber, one-number-one-answer}
 use Rattle.reserve.specs.Offer.{Ended, offered}
-use Rattle.reserve.specs.Layout.{stateIn, startingIn, depthIn}
+use Rattle.reserve.specs.Layout.{stateIn, startingIn, depthIn, recordIn}
 use Rattle.reserve.specs.Check.{checked, bookNumber}
 use Rattle.reserve.specs.Open.{freshBook, left, openAnswer, openBytes, openNumber}
 
@@ -32,6 +32,10 @@ depth-determined s r r′ p q = p ∙ sym q
 -- capacity and count, at their places
 pub number-determined : (s : List ℕ) (at r r′ : ℕ) → r ≡ bigAt 4 s at → r′ ≡ bigAt 4 s at → r ≡ r′
 number-determined s at r r′ p q = p ∙ sym q
+
+-- one of its records
+pub record-at-determined : (s : List ℕ) (i : ℕ) (r r′ : List ℕ) → r ≡ recordIn s i → r′ ≡ recordIn s i → r ≡ r′
+record-at-determined s i r r′ p q = p ∙ sym q
 
 -- the check
 

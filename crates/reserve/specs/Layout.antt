@@ -45,6 +45,10 @@ cut (suc n) s = take 145 s ∷ cut n (drop 145 s)
 abbrev pub recordsIn : List ℕ → List (List ℕ)
 recordsIn s = cut (countIn s) (drop 48 s)
 
+-- record i of a book, from 0; no bytes where there is none
+unfoldable pub recordIn : List ℕ → ℕ → List ℕ
+recordIn s i = getD (recordsIn s) i []
+
 -- records one behind the other
 unfoldable pub laid : List (List ℕ) → List ℕ
 laid [] = []

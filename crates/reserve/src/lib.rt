@@ -7,4 +7,5 @@ pub mod offer;
 pub mod open;
 mod place;
 pub mod rank;
+pub mod record;
 mod rise;
