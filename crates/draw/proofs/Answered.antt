@@ -2,14 +2,15 @@
 use mathlib.Core.Bool.{Bool, true, false, cond, _&&_}
 use mathlib.Core.Path.{_≡_, refl, ap, _∙_}
 use mathlib.Core.List.{List, [], map}
-use Prim.Native.Nat.{ℕ, zero, suc, _≤_}
+use Prim.Native.Nat.{ℕ, _≤_}
 use native.Mathlib.Omega.{arith}
 use lib.Dec.{eqb, ltb}
-use lib.ListN.{length, take, drop, length-take, length-map, replicate}
+use lib.ListN.{length, take, length-take, length-map, replicate}
 use borrow.Author.Tests.{ltb-false, eqb-true}
 use Rattle.reserve.specs.Record.{addressIn}
-use Rattle.reserve.specs.Layout.{stateIn, countIn, recordsIn, cut}
+use Rattle.reserve.specs.Layout.{stateIn, countIn, recordsIn}
 use Rattle.reserve.specs.Check.{wellFormed}
+use Rattle.reserve.proofs.Cuts.{counted}
 use Rattle.draw.specs.declared.answer.DrawAnswer.{DrawAnswer}
 use Rattle.draw.specs.declared.answer.DrawAnswer.the-variants.{Done, NotWellFormed, Overfull, WrongLength, TooFew}
 use Rattle.draw.specs.Answer.{onlyDone, andThen}
@@ -81,13 +82,8 @@ drawn-sample book shelf anchor sample e = ap (λ (a : DrawAnswer). onlyDone a (w
 
 -- ---- lengths
 
-pub cut-length : (n : ℕ) (s : List ℕ) → length (cut n s) ≡ n
-unfolding cut
-cut-length zero s = refl
-cut-length (suc n) s = ap suc (cut-length n (drop 145 s))
-
 pub addresses-length : (book : List ℕ) → length (addressesIn book) ≡ countIn book
-addresses-length book = length-map (recordsIn book) addressIn ∙ cut-length (countIn book) (drop 48 book)
+addresses-length book = length-map (recordsIn book) addressIn ∙ counted book
 
 pub sixteen-sized : (book shelf anchor : List ℕ) → Sized (sixteenDrawn book shelf anchor)
 unfolding sixteenDrawn sixteen pairsDrawn

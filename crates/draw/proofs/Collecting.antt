@@ -1,8 +1,8 @@
 -- What holds along the shelf: what is left to answer and to gather is what there was at the start.
 use mathlib.Core.Bool.{Bool, true, false, cond, false≢true}
 use mathlib.Core.Path.{_≡_, refl, sym, ap, ap₂, subst, _∙_}
-use mathlib.Core.List.{List, map}
-use Prim.Native.Nat.{ℕ, _+_, _-_, _*_, _≤_, _<_}
+use mathlib.Core.List.{List}
+use Prim.Native.Nat.{ℕ, _+_, _-_, _≤_, _<_}
 use native.Mathlib.Omega.{arith}
 use lib.Dec.{eqb}
 use lib.ListN.{length, take, drop, length-drop}
@@ -10,7 +10,7 @@ use borrow.Author.Tests.{eq-eqb, ne-eqb}
 use Rattle.octets.specs.Pieces.{pieces}
 use Rattle.octets.proofs.Pieces.{length-pieces, pieces-none}
 use Rattle.reserve.specs.Record.{addressIn}
-use Rattle.reserve.specs.Layout.{countIn, cut}
+use Rattle.reserve.specs.Layout.{countIn, recordIn}
 use Rattle.draw.specs.declared.answer.DrawAnswer.{DrawAnswer}
 use Rattle.draw.specs.declared.answer.DrawAnswer.the-variants.{Done, NotWellFormed, Overfull, WrongLength, ShelfEnds, TooLong, Mismatch, Left, TooFew}
 use Rattle.draw.specs.declared.drawing.CellRead.{CellRead}
@@ -18,7 +18,7 @@ use Rattle.draw.specs.Answer.{isDone, andThen}
 use Rattle.draw.specs.Shelf.{behind, shelfAnswer}
 use Rattle.draw.specs.Draw.{addressesIn, sixteenDrawn}
 use Rattle.draw.specs.Inside.{ReadsCell, Collects}
-use Rattle.draw.proofs.Walking.{addressesFrom, addressAt, answer-turn, answer-last, aheadOf, sixteen-ahead, ahead-turn, ahead-last, rest-is, recorded-is, behind-at}
+use Rattle.draw.proofs.Walking.{addressesFrom, addressAt, answer-turn, answer-last, aheadOf, sixteen-ahead, ahead-turn, ahead-last, rest-is, behind-at}
 
 -- ---- the first refusal speaks
 
@@ -84,18 +84,18 @@ module _ (book shelf anchor : List ℕ) (records : ℕ) (best : List ℕ) where
         inside = omega arith;
         most = omega arith;
         size = h;
-        to-answer = ap (λ (n : ℕ). shelfAnswer 0 (map addressIn (cut n (drop 48 book))) shelf) all;
+        to-answer = refl;
         to-gather = sixteen-ahead book shelf anchor ∙ ap₂ (λ (l : List (List ℕ)) (n : ℕ). aheadOf anchor l n shelf) (sym (pieces-none 64 best)) all;
       }
 
   module _ (at held i : ℕ) (w : Walked book shelf anchor records best at held i) where
-    -- the cell there against record i, both as parts of what is lent
-    module _ (ahead : i < records) (r : CellRead) (next : List ℕ)
-        (given : ReadsCell (take (length shelf - at) (drop at shelf)) (take (96 + 145 * i + 32 - (96 + 145 * i)) (drop (96 + 145 * i) book)) i anchor best held r next) where
+    -- the cell there against record i, as it was found
+    module _ (ahead : i < records) (r : CellRead) (found next : List ℕ) (told : found ≡ recordIn book i)
+        (given : ReadsCell (take (length shelf - at) (drop at shelf)) (addressIn found) i anchor best held r next) where
       here : ReadsCell (drop at shelf) (addressAt i book) i anchor best held r next
       here =
           subst (λ (s : List ℕ). ReadsCell s (addressAt i book) i anchor best held r next) (rest-is at shelf)
-          (subst (λ (a : List ℕ). ReadsCell (take (length shelf - at) (drop at shelf)) a i anchor best held r next) (recorded-is i book) given)
+          (subst (λ (a : List ℕ). ReadsCell (take (length shelf - at) (drop at shelf)) a i anchor best held r next) (ap addressIn told) given)
 
       before : i < countIn book
       before = omega (arith, w .counted)

@@ -10,6 +10,7 @@ use reserve::check::BookAnswer;
 use reserve::check::check_book;
 use reserve::header::count;
 use reserve::header::overfull;
+use reserve::record::record_at;
 ghost use mathlib.Core.Path.{_≡_};
 ghost use Prim.Native.Nat.{_+_, _*_, _≤_};
 ghost use lib.ListN.{length};
@@ -87,17 +88,9 @@ fn collect(book: &[u8], shelf: &[u8], anchor: &[u8], best: &mut [u8]) -> Collect
     let mut held = 0;
     let mut i = 0;
     while i < records {
-        // A record's address stands behind its slot and time, 48 bytes, and the first record behind the header, 48 more.
-        let start = 96 + 145 * i;
-        let end = start + 32;
-        let read = read_cell(
-            &shelf[at..],
-            &book[start..end],
-            i as u32,
-            anchor,
-            best,
-            held,
-        );
+        let record = record_at(book, i);
+        // A record's address stands behind its slot and its time.
+        let read = read_cell(&shelf[at..], &record[48..80], i as u32, anchor, best, held);
         let answer = read.answer;
         if !answer.is_done() {
             return Collected { answer, held };
