@@ -8,7 +8,7 @@ use Rattle.chunk.specs.Tree.{addressOf}
 use Rattle.reserve.specs.Record.{addressIn}
 use Rattle.reserve.specs.Layout.{recordsIn}
 use Rattle.draw.specs.declared.answer.DrawAnswer.{DrawAnswer}
-use Rattle.draw.specs.declared.answer.DrawAnswer.the-variants.{Drawn, BadBook, Overfull, WrongLength, ShelfEnds, TooLong, Mismatch, Left, TooFew}
+use Rattle.draw.specs.declared.answer.DrawAnswer.the-variants.{Done, NotWellFormed, Overfull, WrongLength, ShelfEnds, TooLong, Mismatch, Left, TooFew}
 use Rattle.draw.specs.Answer.{drawNumber}
 use Rattle.draw.specs.Shelf.{ownAddress, pairOf}
 use Rattle.draw.specs.Sample.{written, sampleSpan, commitmentOf}
@@ -19,24 +19,24 @@ use Rattle.draw.proofs.Theorems as draws
 use Rattle.agreement.specs.Theorems.{GotHash, OfRecord, Sampled}
 
 -- 0 is the number of no other answer
-zero-drawn : (a : DrawAnswer) → drawNumber a ≡ 0 → a ≡ Drawn
-zero-drawn Drawn e = refl
-zero-drawn BadBook e = absurd (omega (arith, e))
-zero-drawn Overfull e = absurd (omega (arith, e))
-zero-drawn WrongLength e = absurd (omega (arith, e))
-zero-drawn (ShelfEnds place) e = absurd (omega (arith, e))
-zero-drawn (TooLong place) e = absurd (omega (arith, e))
-zero-drawn (Mismatch place) e = absurd (omega (arith, e))
-zero-drawn Left e = absurd (omega (arith, e))
-zero-drawn TooFew e = absurd (omega (arith, e))
+zero-done : (a : DrawAnswer) → drawNumber a ≡ 0 → a ≡ Done
+zero-done Done e = refl
+zero-done NotWellFormed e = absurd (omega (arith, e))
+zero-done Overfull e = absurd (omega (arith, e))
+zero-done WrongLength e = absurd (omega (arith, e))
+zero-done (ShelfEnds place) e = absurd (omega (arith, e))
+zero-done (TooLong place) e = absurd (omega (arith, e))
+zero-done (Mismatch place) e = absurd (omega (arith, e))
+zero-done Left e = absurd (omega (arith, e))
+zero-done TooFew e = absurd (omega (arith, e))
 
-pub got-drawn : (book shelf anchor sample : List ℕ) → GotHash book shelf anchor sample → drawAnswer book shelf anchor sample ≡ Drawn
+pub got-drawn : (book shelf anchor sample : List ℕ) → GotHash book shelf anchor sample → drawAnswer book shelf anchor sample ≡ Done
 unfolding drawn
-got-drawn book shelf anchor sample = zero-drawn (drawAnswer book shelf anchor sample)
+got-drawn book shelf anchor sample = zero-done (drawAnswer book shelf anchor sample)
 
 -- ---- the sample
 
-module _ (book shelf anchor sample : List ℕ) (e : drawAnswer book shelf anchor sample ≡ Drawn) where
+module _ (book shelf anchor sample : List ℕ) (e : drawAnswer book shelf anchor sample ≡ Done) where
   abbrev chosen : List (List ℕ)
   chosen = sixteenDrawn book shelf anchor
 

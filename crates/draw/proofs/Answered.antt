@@ -12,12 +12,12 @@ use Rattle.reserve.specs.Layout.{stateIn, countIn, recordsIn}
 use Rattle.reserve.specs.Check.{wellFormed}
 use Rattle.reserve.proofs.Cuts.{counted}
 use Rattle.draw.specs.declared.answer.DrawAnswer.{DrawAnswer}
-use Rattle.draw.specs.declared.answer.DrawAnswer.the-variants.{Drawn, BadBook, Overfull, WrongLength, TooFew}
-use Rattle.draw.specs.Answer.{onlyDrawn, andThen}
+use Rattle.draw.specs.declared.answer.DrawAnswer.the-variants.{Done, NotWellFormed, Overfull, WrongLength, TooFew}
+use Rattle.draw.specs.Answer.{onlyDone, andThen}
 use Rattle.draw.specs.Shelf.{pairOf, shelfAnswer}
 use Rattle.draw.specs.Sample.{gathered, sixteen, written, commitmentOf}
 use Rattle.draw.specs.Draw.{addressesIn, cellsDrawn, pairsDrawn, sixteenDrawn, lentAnswer, drawAnswer, drawn, sampleAfter}
-use Rattle.draw.proofs.Shelves.{not-drawn, both-drawn}
+use Rattle.draw.proofs.Shelves.{not-done, both-done}
 use Rattle.draw.proofs.Gathering.{take-member, all-from}
 use Rattle.draw.proofs.Laying.{Sized, cells-sized}
 
@@ -26,21 +26,21 @@ pub record Lent (book anchor sample : List ℕ) : Type 0 where
   pub anchor32 : length anchor ≡ 32
   pub sample1024 : length sample ≡ 1024
 
-pub lent-drawn : (book anchor sample : List ℕ) → lentAnswer book anchor sample ≡ Drawn → Lent book anchor sample
+pub lent-done : (book anchor sample : List ℕ) → lentAnswer book anchor sample ≡ Done → Lent book anchor sample
 unfolding lentAnswer
-lent-drawn book anchor sample = by (wellFormed book) (eqb (stateIn book) 1) (eqb (length anchor) 32) (eqb (length sample) 1024) refl refl refl
+lent-done book anchor sample = by (wellFormed book) (eqb (stateIn book) 1) (eqb (length anchor) 32) (eqb (length sample) 1024) refl refl refl
   where
     by : (w o a s : Bool) → wellFormed book ≡ w → eqb (length anchor) 32 ≡ a → eqb (length sample) 1024 ≡ s
-        → cond w (cond o Overfull (cond (a && s) Drawn WrongLength)) BadBook ≡ Drawn → Lent book anchor sample
-    by true true a s w x y e = not-drawn Overfull (omega arith) e
+        → cond w (cond o Overfull (cond (a && s) Done WrongLength)) NotWellFormed ≡ Done → Lent book anchor sample
+    by true true a s w x y e = not-done Overfull (omega arith) e
     by true false true true w x y e = record { formed = w; anchor32 = eqb-true _ _ x; sample1024 = eqb-true _ _ y }
-    by true false true false w x y e = not-drawn WrongLength (omega arith) e
-    by true false false s w x y e = not-drawn WrongLength (omega arith) e
-    by false o a s w x y e = not-drawn BadBook (omega arith) e
+    by true false true false w x y e = not-done WrongLength (omega arith) e
+    by true false false s w x y e = not-done WrongLength (omega arith) e
+    by false o a s w x y e = not-done NotWellFormed (omega arith) e
 
 pub record Good (book shelf anchor sample : List ℕ) : Type 0 where
   pub lent : Lent book anchor sample
-  pub read : shelfAnswer 0 (addressesIn book) shelf ≡ Drawn
+  pub read : shelfAnswer 0 (addressesIn book) shelf ≡ Done
   pub enough : length (sixteenDrawn book shelf anchor) ≡ 16
 
 most : (pairs : List (List ℕ)) → length (sixteen pairs) ≤ 16
@@ -51,34 +51,34 @@ pub sixteen-most : (book shelf anchor : List ℕ) → length (sixteenDrawn book 
 unfolding sixteenDrawn
 sixteen-most book shelf anchor = most (pairsDrawn book shelf anchor)
 
-pub draw-good : (book shelf anchor sample : List ℕ) → drawAnswer book shelf anchor sample ≡ Drawn → Good book shelf anchor sample
+pub draw-good : (book shelf anchor sample : List ℕ) → drawAnswer book shelf anchor sample ≡ Done → Good book shelf anchor sample
 unfolding drawAnswer
 draw-good book shelf anchor sample e =
-    let few = cond (ltb (length (sixteenDrawn book shelf anchor)) 16) TooFew Drawn in
-    let first = both-drawn (lentAnswer book anchor sample) (andThen (shelfAnswer 0 (addressesIn book) shelf) few) e in
-    let second = both-drawn (shelfAnswer 0 (addressesIn book) shelf) few (first .1) in
+    let few = cond (ltb (length (sixteenDrawn book shelf anchor)) 16) TooFew Done in
+    let first = both-done (lentAnswer book anchor sample) (andThen (shelfAnswer 0 (addressesIn book) shelf) few) e in
+    let second = both-done (shelfAnswer 0 (addressesIn book) shelf) few (first .1) in
     record {
-      lent = lent-drawn book anchor sample (first .0);
+      lent = lent-done book anchor sample (first .0);
       read = second .0;
       enough = by (ltb (length (sixteenDrawn book shelf anchor)) 16) refl (second .1);
     }
   where
-    by : (b : Bool) → ltb (length (sixteenDrawn book shelf anchor)) 16 ≡ b → cond b TooFew Drawn ≡ Drawn → length (sixteenDrawn book shelf anchor) ≡ 16
-    by true h k = not-drawn TooFew (omega arith) k
+    by : (b : Bool) → ltb (length (sixteenDrawn book shelf anchor)) 16 ≡ b → cond b TooFew Done ≡ Done → length (sixteenDrawn book shelf anchor) ≡ 16
+    by true h k = not-done TooFew (omega arith) k
     by false h k = omega (arith, ltb-false (length (sixteenDrawn book shelf anchor)) 16 h, sixteen-most book shelf anchor)
 
 -- ---- what is handed back then
 
-pub drawn-commitment : (book shelf anchor sample : List ℕ) → drawAnswer book shelf anchor sample ≡ Drawn
+pub drawn-commitment : (book shelf anchor sample : List ℕ) → drawAnswer book shelf anchor sample ≡ Done
     → drawn book shelf anchor sample .commitment ≡ commitmentOf (sixteenDrawn book shelf anchor)
 unfolding drawn
 drawn-commitment book shelf anchor sample e =
-    ap (λ (a : DrawAnswer). onlyDrawn a (commitmentOf (sixteenDrawn book shelf anchor)) (replicate 32 0)) e
+    ap (λ (a : DrawAnswer). onlyDone a (commitmentOf (sixteenDrawn book shelf anchor)) (replicate 32 0)) e
 
-pub drawn-sample : (book shelf anchor sample : List ℕ) → drawAnswer book shelf anchor sample ≡ Drawn
+pub drawn-sample : (book shelf anchor sample : List ℕ) → drawAnswer book shelf anchor sample ≡ Done
     → sampleAfter book shelf anchor sample ≡ written (sixteenDrawn book shelf anchor)
 unfolding sampleAfter
-drawn-sample book shelf anchor sample e = ap (λ (a : DrawAnswer). onlyDrawn a (written (sixteenDrawn book shelf anchor)) sample) e
+drawn-sample book shelf anchor sample e = ap (λ (a : DrawAnswer). onlyDone a (written (sixteenDrawn book shelf anchor)) sample) e
 
 -- ---- lengths
 

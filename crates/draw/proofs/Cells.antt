@@ -19,10 +19,10 @@ use Rattle.chunk.specs.Answer.{addressed, anchoredAddressed}
 use Rattle.chunk.specs.declared.addresses.Addressed.{Addressed}
 use Rattle.chunk.proofs.Answers.{addressed-done, anchored-addressed-done}
 use Rattle.chunk.proofs.Theorems.{address-length}
-use Rattle.reserve.specs.declared.check.BookAnswer.the-variants.{WellFormed, NotWellFormed}
+use Rattle.reserve.specs.declared.check.BookAnswer.the-variants as Checked
 use Rattle.reserve.specs.Layout.{stateIn}
 use Rattle.reserve.specs.Check.{wellFormed, checked, bookNumber}
-use Rattle.draw.specs.declared.answer.DrawAnswer.the-variants.{Drawn, BadBook, Overfull, WrongLength, ShelfEnds, TooLong}
+use Rattle.draw.specs.declared.answer.DrawAnswer.the-variants.{Done, NotWellFormed, Overfull, WrongLength, ShelfEnds, TooLong}
 use Rattle.draw.specs.Shelf.{Cell, ownAddress, pairOf, sizeIn, cellIn, matching, cellAnswer}
 use Rattle.draw.specs.Draw.{lentAnswer}
 use Rattle.draw.proofs.Laying.{own-length}
@@ -112,27 +112,27 @@ pair-put anchor cell z d recorded once twice hz ed er e f =
 
 -- ---- the book and the lengths
 
-two-answers : NotWellFormed ≡ WellFormed → ⊥
+two-answers : Checked.NotWellFormed ≡ Checked.WellFormed → ⊥
 two-answers e = let z = ap bookNumber e in omega arith
 
-pub not-formed : (book : List ℕ) → checked book ≡ NotWellFormed → wellFormed book ≡ false
+pub not-formed : (book : List ℕ) → checked book ≡ Checked.NotWellFormed → wellFormed book ≡ false
 unfolding checked
 not-formed book = by (wellFormed book)
   where
-    by : (b : Bool) → cond b WellFormed NotWellFormed ≡ NotWellFormed → b ≡ false
+    by : (b : Bool) → cond b Checked.WellFormed Checked.NotWellFormed ≡ Checked.NotWellFormed → b ≡ false
     by true e = absurd (two-answers (sym e))
     by false e = refl
 
-pub is-formed : (book : List ℕ) → checked book ≡ WellFormed → wellFormed book ≡ true
+pub is-formed : (book : List ℕ) → checked book ≡ Checked.WellFormed → wellFormed book ≡ true
 unfolding checked
 is-formed book = by (wellFormed book)
   where
-    by : (b : Bool) → cond b WellFormed NotWellFormed ≡ WellFormed → b ≡ true
+    by : (b : Bool) → cond b Checked.WellFormed Checked.NotWellFormed ≡ Checked.WellFormed → b ≡ true
     by true e = refl
     by false e = absurd (two-answers e)
 
 module _ (book anchor sample : List ℕ) where
-  pub lent-bad : wellFormed book ≡ false → BadBook ≡ lentAnswer book anchor sample
+  pub lent-bad : wellFormed book ≡ false → NotWellFormed ≡ lentAnswer book anchor sample
   unfolding lentAnswer
   lent-bad w = rw w
 
@@ -150,6 +150,6 @@ module _ (book anchor sample : List ℕ) where
       unfolding lentAnswer
       lent-sample h k = rw (w, o, eq-eqb _ _ h, ne-eqb _ _ k)
 
-      pub lent-fine : length anchor ≡ 32 → length sample ≡ 1024 → Drawn ≡ lentAnswer book anchor sample
+      pub lent-fine : length anchor ≡ 32 → length sample ≡ 1024 → Done ≡ lentAnswer book anchor sample
       unfolding lentAnswer
       lent-fine h k = rw (w, o, eq-eqb _ _ h, eq-eqb _ _ k)

@@ -1,52 +1,52 @@
 -- What holds along the shelf: what is left to answer and to gather is what there was at the start.
 use mathlib.Core.Bool.{Bool, true, false, cond, false≢true}
 use mathlib.Core.Path.{_≡_, refl, sym, ap, ap₂, subst, _∙_}
-use mathlib.Core.List.{List, map}
-use Prim.Native.Nat.{ℕ, _+_, _-_, _*_, _≤_, _<_}
+use mathlib.Core.List.{List}
+use Prim.Native.Nat.{ℕ, _+_, _-_, _≤_, _<_}
 use native.Mathlib.Omega.{arith}
 use lib.Dec.{eqb}
 use lib.ListN.{length, take, drop, length-drop}
 use borrow.Author.Tests.{eq-eqb, ne-eqb}
+use Rattle.octets.specs.Pieces.{pieces}
+use Rattle.octets.proofs.Pieces.{length-pieces, pieces-none}
 use Rattle.reserve.specs.Record.{addressIn}
-use Rattle.octets.specs.Pieces as Octets
-use Rattle.reserve.specs.Layout.{countIn}
+use Rattle.reserve.specs.Layout.{countIn, recordIn}
 use Rattle.draw.specs.declared.answer.DrawAnswer.{DrawAnswer}
-use Rattle.draw.specs.declared.answer.DrawAnswer.the-variants.{Drawn, BadBook, Overfull, WrongLength, ShelfEnds, TooLong, Mismatch, Left, TooFew}
+use Rattle.draw.specs.declared.answer.DrawAnswer.the-variants.{Done, NotWellFormed, Overfull, WrongLength, ShelfEnds, TooLong, Mismatch, Left, TooFew}
 use Rattle.draw.specs.declared.drawing.CellRead.{CellRead}
-use Rattle.draw.specs.Answer.{isDrawn, andThen}
+use Rattle.draw.specs.Answer.{isDone, andThen}
 use Rattle.draw.specs.Shelf.{behind, shelfAnswer}
 use Rattle.draw.specs.Draw.{addressesIn, sixteenDrawn}
-use Rattle.draw.specs.Pieces.{pieces, ReadsCell, Collects}
-use Rattle.draw.proofs.Pieces.{pieces-length, pieces-none}
-use Rattle.draw.proofs.Walking.{addressesFrom, addressAt, answer-turn, answer-last, aheadOf, sixteen-ahead, ahead-turn, ahead-last, rest-is, recorded-is, behind-at}
+use Rattle.draw.specs.Inside.{ReadsCell, Collects}
+use Rattle.draw.proofs.Walking.{addressesFrom, addressAt, answer-turn, answer-last, aheadOf, sixteen-ahead, ahead-turn, ahead-last, rest-is, behind-at}
 
 -- ---- the first refusal speaks
 
-pub drawn-goes-on : (a next : DrawAnswer) → isDrawn a ≡ true → andThen a next ≡ next
-drawn-goes-on Drawn next h = refl
-drawn-goes-on BadBook next h = absurd (false≢true h)
-drawn-goes-on Overfull next h = absurd (false≢true h)
-drawn-goes-on WrongLength next h = absurd (false≢true h)
-drawn-goes-on (ShelfEnds k) next h = absurd (false≢true h)
-drawn-goes-on (TooLong k) next h = absurd (false≢true h)
-drawn-goes-on (Mismatch k) next h = absurd (false≢true h)
-drawn-goes-on Left next h = absurd (false≢true h)
-drawn-goes-on TooFew next h = absurd (false≢true h)
+pub done-goes-on : (a next : DrawAnswer) → isDone a ≡ true → andThen a next ≡ next
+done-goes-on Done next h = refl
+done-goes-on NotWellFormed next h = absurd (false≢true h)
+done-goes-on Overfull next h = absurd (false≢true h)
+done-goes-on WrongLength next h = absurd (false≢true h)
+done-goes-on (ShelfEnds k) next h = absurd (false≢true h)
+done-goes-on (TooLong k) next h = absurd (false≢true h)
+done-goes-on (Mismatch k) next h = absurd (false≢true h)
+done-goes-on Left next h = absurd (false≢true h)
+done-goes-on TooFew next h = absurd (false≢true h)
 
-pub is-drawn : (a : DrawAnswer) → isDrawn a ≡ true → a ≡ Drawn
-is-drawn Drawn h = refl
-is-drawn BadBook h = absurd (false≢true h)
-is-drawn Overfull h = absurd (false≢true h)
-is-drawn WrongLength h = absurd (false≢true h)
-is-drawn (ShelfEnds k) h = absurd (false≢true h)
-is-drawn (TooLong k) h = absurd (false≢true h)
-is-drawn (Mismatch k) h = absurd (false≢true h)
-is-drawn Left h = absurd (false≢true h)
-is-drawn TooFew h = absurd (false≢true h)
+pub is-done : (a : DrawAnswer) → isDone a ≡ true → a ≡ Done
+is-done Done h = refl
+is-done NotWellFormed h = absurd (false≢true h)
+is-done Overfull h = absurd (false≢true h)
+is-done WrongLength h = absurd (false≢true h)
+is-done (ShelfEnds k) h = absurd (false≢true h)
+is-done (TooLong k) h = absurd (false≢true h)
+is-done (Mismatch k) h = absurd (false≢true h)
+is-done Left h = absurd (false≢true h)
+is-done TooFew h = absurd (false≢true h)
 
-pub refused-stays : (a next : DrawAnswer) → isDrawn a ≡ false → andThen a next ≡ a
-refused-stays Drawn next h = absurd (false≢true (sym h))
-refused-stays BadBook next h = refl
+pub refused-stays : (a next : DrawAnswer) → isDone a ≡ false → andThen a next ≡ a
+refused-stays Done next h = absurd (false≢true (sym h))
+refused-stays NotWellFormed next h = refl
 refused-stays Overfull next h = refl
 refused-stays WrongLength next h = refl
 refused-stays (ShelfEnds k) next h = refl
@@ -55,12 +55,12 @@ refused-stays (Mismatch k) next h = refl
 refused-stays Left next h = refl
 refused-stays TooFew next h = refl
 
-first-speaks : (a next : DrawAnswer) (b : Bool) → isDrawn a ≡ b → andThen a next ≡ cond b next a
-first-speaks a next true h = drawn-goes-on a next h
+first-speaks : (a next : DrawAnswer) (b : Bool) → isDone a ≡ b → andThen a next ≡ cond b next a
+first-speaks a next true h = done-goes-on a next h
 first-speaks a next false h = refused-stays a next h
 
-pub not-refused : {A : Type 0} (a : DrawAnswer) → isDrawn a ≡ false → a ≡ Drawn → A
-not-refused a h e = absurd (false≢true (sym h ∙ ap isDrawn e))
+pub not-refused : {A : Type 0} (a : DrawAnswer) → isDone a ≡ false → a ≡ Done → A
+not-refused a h e = absurd (false≢true (sym h ∙ ap isDone e))
 
 -- ---- along the shelf
 
@@ -72,7 +72,7 @@ pub record Walked (book shelf anchor : List ℕ) (records : ℕ) (best : List �
   pub most : held ≤ 16
   pub size : length best ≡ 1024
   pub to-answer : shelfAnswer 0 (addressesIn book) shelf ≡ shelfAnswer i (addressesFrom i book) (drop at shelf)
-  pub to-gather : sixteenDrawn book shelf anchor ≡ aheadOf anchor (pieces held best) (countIn book - i) (drop at shelf)
+  pub to-gather : sixteenDrawn book shelf anchor ≡ aheadOf anchor (pieces 64 held best) (countIn book - i) (drop at shelf)
 
 module _ (book shelf anchor : List ℕ) (records : ℕ) (best : List ℕ) where
   pub walk-starts : records ≡ countIn book → length best ≡ 1024 → Walked book shelf anchor records best 0 0 0
@@ -84,54 +84,54 @@ module _ (book shelf anchor : List ℕ) (records : ℕ) (best : List ℕ) where
         inside = omega arith;
         most = omega arith;
         size = h;
-        to-answer = ap (λ (n : ℕ). shelfAnswer 0 (map addressIn (Octets.pieces 145 n (drop 48 book))) shelf) all;
-        to-gather = sixteen-ahead book shelf anchor ∙ ap₂ (λ (l : List (List ℕ)) (n : ℕ). aheadOf anchor l n shelf) (sym (pieces-none best)) all;
+        to-answer = refl;
+        to-gather = sixteen-ahead book shelf anchor ∙ ap₂ (λ (l : List (List ℕ)) (n : ℕ). aheadOf anchor l n shelf) (sym (pieces-none 64 best)) all;
       }
 
   module _ (at held i : ℕ) (w : Walked book shelf anchor records best at held i) where
-    -- the cell there against record i, both as parts of what is lent
-    module _ (ahead : i < records) (r : CellRead) (next : List ℕ)
-        (given : ReadsCell (take (length shelf - at) (drop at shelf)) (take (96 + 145 * i + 32 - (96 + 145 * i)) (drop (96 + 145 * i) book)) i anchor best held r next) where
+    -- the cell there against record i, as it was found
+    module _ (ahead : i < records) (r : CellRead) (found next : List ℕ) (told : found ≡ recordIn book i)
+        (given : ReadsCell (take (length shelf - at) (drop at shelf)) (addressIn found) i anchor best held r next) where
       here : ReadsCell (drop at shelf) (addressAt i book) i anchor best held r next
       here =
           subst (λ (s : List ℕ). ReadsCell s (addressAt i book) i anchor best held r next) (rest-is at shelf)
-          (subst (λ (a : List ℕ). ReadsCell (take (length shelf - at) (drop at shelf)) a i anchor best held r next) (recorded-is i book) given)
+          (subst (λ (a : List ℕ). ReadsCell (take (length shelf - at) (drop at shelf)) a i anchor best held r next) (ap addressIn told) given)
 
       before : i < countIn book
       before = omega (arith, w .counted)
 
       -- what is answered where this cell is passed, and where it is not
-      answered-on : (b : Bool) → isDrawn (r .answer) ≡ b → shelfAnswer 0 (addressesIn book) shelf ≡ cond b (shelfAnswer (i + 1) (addressesFrom (i + 1) book) (behind (drop at shelf))) (r .answer)
+      answered-on : (b : Bool) → isDone (r .answer) ≡ b → shelfAnswer 0 (addressesIn book) shelf ≡ cond b (shelfAnswer (i + 1) (addressesFrom (i + 1) book) (behind (drop at shelf))) (r .answer)
       answered-on b h =
           let further = shelfAnswer (i + 1) (addressesFrom (i + 1) book) (behind (drop at shelf)) in
           w .to-answer ∙ answer-turn i book (drop at shelf) before ∙ ap (λ (x : DrawAnswer). andThen x further) (sym (here .answered)) ∙ first-speaks (r .answer) further b h
 
-      pub walk-turn : isDrawn (r .answer) ≡ true → Walked book shelf anchor records next (at + r .size) (r .held) (i + 1)
+      pub walk-turn : isDone (r .answer) ≡ true → Walked book shelf anchor records next (at + r .size) (r .held) (i + 1)
       walk-turn h =
-          let drawn = is-drawn (r .answer) h in
-          let moved = behind-at at (r .size) shelf (here .measured drawn .0) in
+          let done = is-done (r .answer) h in
+          let moved = behind-at at (r .size) shelf (here .measured done .0) in
           record {
             counted = w .counted;
             reached = omega arith;
-            inside = omega (arith, here .measured drawn .1, length-drop at shelf, w .inside);
-            most = here .most drawn .1;
-            size = here .most drawn .0;
+            inside = omega (arith, here .measured done .1, length-drop at shelf, w .inside);
+            most = here .most done .1;
+            size = here .most done .0;
             to-answer = answered-on true h ∙ ap (shelfAnswer (i + 1) (addressesFrom (i + 1) book)) moved;
             to-gather =
-                w .to-gather ∙ ahead-turn anchor (pieces held best) (countIn book) i (drop at shelf) before
-                ∙ ap₂ (λ (l : List (List ℕ)) (s : List ℕ). aheadOf anchor l (countIn book - (i + 1)) s) (sym (here .kept drawn)) moved;
+                w .to-gather ∙ ahead-turn anchor (pieces 64 held best) (countIn book) i (drop at shelf) before
+                ∙ ap₂ (λ (l : List (List ℕ)) (s : List ℕ). aheadOf anchor l (countIn book - (i + 1)) s) (sym (here .kept done)) moved;
           }
 
-      pub walk-refused : isDrawn (r .answer) ≡ false → Collects book shelf anchor (record { answer = r .answer; held = held }) next
+      pub walk-refused : isDone (r .answer) ≡ false → Collects book shelf anchor (record { answer = r .answer; held = held }) next
       walk-refused h = record { answered = sym (answered-on false h); kept = not-refused (r .answer) h }
 
     module _ (over : records ≤ i) where
       past : countIn book ≤ i
       past = omega (arith, w .counted)
 
-      nothing-left : (b : Bool) → eqb (length (drop at shelf)) 0 ≡ b → shelfAnswer 0 (addressesIn book) shelf ≡ cond b Drawn Left
+      nothing-left : (b : Bool) → eqb (length (drop at shelf)) 0 ≡ b → shelfAnswer 0 (addressesIn book) shelf ≡ cond b Done Left
       unfolding shelfAnswer
-      nothing-left b e = w .to-answer ∙ answer-last i book (drop at shelf) past ∙ ap (λ (x : Bool). cond x Drawn Left) e
+      nothing-left b e = w .to-answer ∙ answer-last i book (drop at shelf) past ∙ ap (λ (x : Bool). cond x Done Left) e
 
       pub walk-left : at < length shelf → Collects book shelf anchor (record { answer = Left; held = held }) best
       walk-left h = record {
@@ -139,8 +139,8 @@ module _ (book shelf anchor : List ℕ) (records : ℕ) (best : List ℕ) where
         kept = not-refused Left refl;
       }
 
-      pub walk-ends : length shelf ≤ at → Collects book shelf anchor (record { answer = Drawn; held = held }) best
+      pub walk-ends : length shelf ≤ at → Collects book shelf anchor (record { answer = Done; held = held }) best
       walk-ends h = record {
         answered = sym (nothing-left true (eq-eqb (length (drop at shelf)) 0 (omega (arith, length-drop at shelf))));
-        kept = λ e. sym (w .to-gather ∙ ahead-last anchor (pieces held best) (countIn book) i (drop at shelf) past (omega (arith, pieces-length held best, w .most)));
+        kept = λ e. sym (w .to-gather ∙ ahead-last anchor (pieces 64 held best) (countIn book) i (drop at shelf) past (omega (arith, length-pieces 64 held best, w .most)));
       }

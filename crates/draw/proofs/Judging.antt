@@ -13,7 +13,7 @@ use Rattle.octets.specs.declared.order.Order.{Order}
 use Rattle.octets.specs.declared.order.Order.the-variants as Ordered
 use Rattle.octets.proofs.Ordered.{order-self, same-equal}
 use Rattle.draw.specs.declared.answer.DrawAnswer.{DrawAnswer}
-use Rattle.draw.specs.declared.answer.DrawAnswer.the-variants.{Drawn, BadBook, Overfull, WrongLength, ShelfEnds, TooLong, Mismatch, Left, TooFew}
+use Rattle.draw.specs.declared.answer.DrawAnswer.the-variants.{Done, NotWellFormed, Overfull, WrongLength, ShelfEnds, TooLong, Mismatch, Left, TooFew}
 use Rattle.draw.specs.Answer.{drawNumber, drawPlace, andThen}
 use Rattle.draw.specs.Shelf.{ownAddress, sizeIn, cellIn, matching, cellAnswer, shelfAnswer}
 use Rattle.draw.specs.Theorems.{shelfFrom, SoundCell, SoundBefore, WrongCell, no-length, too-long, cut-short, mismatch}
@@ -27,8 +27,8 @@ says-as e s = (ap drawNumber e ∙ s .0, ap drawPlace e ∙ s .1)
 
 -- behind a refusal nothing is asked
 pub stops : (a b : DrawAnswer) → 10 ≤ drawNumber a → andThen a b ≡ a
-stops Drawn b h = absurd (omega arith)
-stops BadBook b h = refl
+stops Done b h = absurd (omega arith)
+stops NotWellFormed b h = refl
 stops Overfull b h = refl
 stops WrongLength b h = refl
 stops (ShelfEnds k) b h = refl
@@ -40,7 +40,7 @@ stops TooFew b h = refl
 -- ---- one cell
 
 module _ (place : ℕ) (address rest : List ℕ) where
-  sound-answer : SoundCell address rest → cellAnswer place address rest ≡ Drawn
+  sound-answer : SoundCell address rest → cellAnswer place address rest ≡ Done
   unfolding cellAnswer
   sound-answer w =
       let same : byteOrder (ownAddress (cellIn rest)) address ≡ Ordered.Same = ap (λ (a : List ℕ). byteOrder a address) (w .own) ∙ order-self address in

@@ -9,7 +9,6 @@ pub mod Answered
 pub mod Judging
 pub mod Tabled
 pub mod Theorems
-pub mod Pieces
 pub mod Placing
 pub mod Writing
 pub mod Walking

@@ -6,7 +6,7 @@ use Prim.Native.Nat.{ℕ, zero, suc}
 use lib.ListN.{length, replicate}
 use Rattle.octets.specs.Number.{big}
 use Rattle.octets.specs.Order.{byteOrder}
-use Rattle.draw.specs.declared.answer.DrawAnswer.the-variants.{Drawn, ShelfEnds, TooLong, Left}
+use Rattle.draw.specs.declared.answer.DrawAnswer.the-variants.{Done, ShelfEnds, TooLong, Left}
 use Rattle.draw.specs.Shelf.{cellAnswer, shelfAnswer}
 use Rattle.draw.specs.Sample.{entered, gathered, sixteen, written}
 
@@ -29,7 +29,7 @@ shelf-sheet :
     -- the first cell speaks; past the last record a byte is left, or none
     × (shelfAnswer 0 ([] ∷ [] ∷ []) (head 0x10 0x01) ≡ TooLong 0)
     × (shelfAnswer 2 [] (0x00 ∷ []) ≡ Left)
-    × (shelfAnswer 2 [] [] ≡ Drawn)
+    × (shelfAnswer 2 [] [] ≡ Done)
 unfolding head cellAnswer shelfAnswer big
 shelf-sheet = (refl, refl, refl, refl, refl, refl, refl, refl)
 

@@ -14,7 +14,7 @@ use Rattle.reserve.specs.Layout.{stateIn, countIn, WellFormed}
 use Rattle.reserve.specs.Check.{wellFormed}
 use Rattle.reserve.proofs.Tested.{said as untested, heard as tested}
 use Rattle.draw.specs.declared.answer.DrawAnswer.{DrawAnswer}
-use Rattle.draw.specs.declared.answer.DrawAnswer.the-variants.{Drawn, BadBook, Overfull, WrongLength, Left, TooFew}
+use Rattle.draw.specs.declared.answer.DrawAnswer.the-variants.{Done, NotWellFormed, Overfull, WrongLength, Left, TooFew}
 use Rattle.draw.specs.Answer.{drawNumber, andThen}
 use Rattle.draw.specs.Shelf.{shelfAnswer}
 use Rattle.draw.specs.Draw.{addressesIn, pairsDrawn, sixteenDrawn, lentAnswer, drawAnswer}
@@ -26,7 +26,7 @@ use Rattle.draw.proofs.Judging.{Says, says-as, stops, wrong-refused, pa
 -- ---- before the shelf
 
 module _ (book anchor sample : List ℕ) where
-  lent-ill : Bytes book → (WellFormed book → ⊥) → lentAnswer book anchor sample ≡ BadBook
+  lent-ill : Bytes book → (WellFormed book → ⊥) → lentAnswer book anchor sample ≡ NotWellFormed
   unfolding lentAnswer
   lent-ill byte never = rw (go (wellFormed book) refl)
     where
@@ -46,18 +46,18 @@ module _ (book anchor sample : List ℕ) where
   lent-length w z h = rw (tested book w, not-one z) (go h (eqb (length anchor) 32) refl)
     where
       go : (length anchor ≡ 32 → ⊥) ⊎ (length sample ≡ 1024 → ⊥) → (b : Bool) → eqb (length anchor) 32 ≡ b
-          → cond (b && eqb (length sample) 1024) Drawn WrongLength ≡ WrongLength
+          → cond (b && eqb (length sample) 1024) Done WrongLength ≡ WrongLength
       go (inl other) true e = absurd (false≢true (sym (ne-eqb (length anchor) 32 other) ∙ e))
       go (inr other) true e = rw (ne-eqb (length sample) 1024 other)
       go h false e = refl
 
-  lent-ready : Ready book anchor sample → lentAnswer book anchor sample ≡ Drawn
+  lent-ready : Ready book anchor sample → lentAnswer book anchor sample ≡ Done
   unfolding lentAnswer
   lent-ready r = rw (tested book (r .formed), not-one (r .good), eq-eqb (length anchor) 32 (r .anchored), eq-eqb (length sample) 1024 (r .output))
 
 module _ (book shelf anchor sample : List ℕ) where
   abbrev few : DrawAnswer
-  few = cond (ltb (length (sixteenDrawn book shelf anchor)) 16) TooFew Drawn
+  few = cond (ltb (length (sixteenDrawn book shelf anchor)) 16) TooFew Done
 
   at-once : (a : DrawAnswer) → 10 ≤ drawNumber a → lentAnswer book anchor sample ≡ a → drawAnswer book shelf anchor sample ≡ a
   unfolding drawAnswer
@@ -72,7 +72,7 @@ module _ (book shelf anchor sample : List ℕ) where
   -- ---- behind the last cell
 
   module _ (h : AllSound book shelf anchor sample) where
-    ending : shelfAnswer 0 (addressesIn book) shelf ≡ cond (eqb (length (shelfFrom (countIn book) shelf)) 0) Drawn Left
+    ending : shelfAnswer 0 (addressesIn book) shelf ≡ cond (eqb (length (shelfFrom (countIn book) shelf)) 0) Done Left
     unfolding shelfAnswer
     ending =
         let most : countIn book ≤ length (addressesIn book) = omega (arith, addresses-length book) in
@@ -83,12 +83,12 @@ module _ (book shelf anchor sample : List ℕ) where
     left-answer : 0 < length (shelfFrom (countIn book) shelf) → drawAnswer book shelf anchor sample ≡ Left
     left-answer k =
         let left = ne-eqb (length (shelfFrom (countIn book) shelf)) 0 (λ e. omega (arith, k, e)) in
-        past-lent (h .ready) ∙ ap (λ (x : DrawAnswer). andThen x few) (ending ∙ ap (λ (b : Bool). cond b Drawn Left) left)
+        past-lent (h .ready) ∙ ap (λ (x : DrawAnswer). andThen x few) (ending ∙ ap (λ (b : Bool). cond b Done Left) left)
 
     full-answer : length (shelfFrom (countIn book) shelf) ≡ 0 → drawAnswer book shelf anchor sample ≡ few
     full-answer e =
         let none = eq-eqb (length (shelfFrom (countIn book) shelf)) 0 e in
-        past-lent (h .ready) ∙ ap (λ (x : DrawAnswer). andThen x few) (ending ∙ ap (λ (b : Bool). cond b Drawn Left) none)
+        past-lent (h .ready) ∙ ap (λ (x : DrawAnswer). andThen x few) (ending ∙ ap (λ (b : Bool). cond b Done Left) none)
 
   enough : SixteenAmong (pairsDrawn book shelf anchor) → 16 ≤ length (sixteenDrawn book shelf anchor)
   unfolding sixteenDrawn
@@ -116,7 +116,7 @@ module _ (book shelf anchor sample : List ℕ) where
 
   module _ (byte : Bytes book) where
     from-table : (n p : ℕ) → DrawTable book shelf anchor sample n p → Says (drawAnswer book shelf anchor sample) n p
-    from-table n p (not-well-formed u) = says-as (at-once BadBook (omega arith) (lent-ill book anchor sample byte u)) (refl, refl)
+    from-table n p (not-well-formed u) = says-as (at-once NotWellFormed (omega arith) (lent-ill book anchor sample byte u)) (refl, refl)
     from-table n p (already-overfull w e) = says-as (at-once Overfull (omega arith) (lent-overfull book anchor sample w e)) (refl, refl)
     from-table n p (wrong-length w z h) = says-as (at-once WrongLength (omega arith) (lent-length book anchor sample w z h)) (refl, refl)
     from-table n p (wrong-cell m i r h sound w) =
@@ -126,9 +126,9 @@ module _ (book shelf anchor sample : List ℕ) where
         says-as (past-lent r ∙ stops a few refused) says
     from-table n p (bytes-left h k) = says-as (left-answer h k) (refl, refl)
     from-table n p (too-few h e never) =
-        says-as (full-answer h e ∙ ap (λ (b : Bool). cond b TooFew Drawn) (lt-ltb (length (sixteenDrawn book shelf anchor)) 16 (fewer never))) (refl, refl)
+        says-as (full-answer h e ∙ ap (λ (b : Bool). cond b TooFew Done) (lt-ltb (length (sixteenDrawn book shelf anchor)) 16 (fewer never))) (refl, refl)
     from-table n p (done h e s) =
-        says-as (full-answer h e ∙ ap (λ (b : Bool). cond b TooFew Drawn) (le-ltb (length (sixteenDrawn book shelf anchor)) 16 (enough s))) (refl, refl)
+        says-as (full-answer h e ∙ ap (λ (b : Bool). cond b TooFew Done) (le-ltb (length (sixteenDrawn book shelf anchor)) 16 (enough s))) (refl, refl)
 
     -- ---- every input has a row
 

@@ -6,12 +6,12 @@ use Prim.Native.Nat.{ℕ}
 use lib.ListN.{length}
 use Rattle.keccak.specs.Collision.{Collision}
 use Rattle.chunk.proofs.Collide.{Among, among-left, among-right, _>>=_}
-use Rattle.draw.specs.declared.answer.DrawAnswer.the-variants.{Drawn}
+use Rattle.draw.specs.declared.answer.DrawAnswer.the-variants.{Done}
 use Rattle.draw.specs.Shelf.{Cell, ownAddress, pairOf, cellsHashed, cellsOn, shelfAnswer}
 use Rattle.draw.specs.Sample.{gathered, sixteen, written, commitmentOf, commitmentHashed}
 use Rattle.draw.specs.Draw.{addressesIn, cellsDrawn, pairsDrawn, sixteenDrawn, drawn, drawHashed}
 use Rattle.draw.specs.Theorems.{DrawAnswers, EachHashesToItsRecord, TheSixteenSmallest, SixteenOnce, EachDifferentPairOnce, OrderDoesNotMatter, OneAnchorOneHash, OneHashOneSample}
-use Rattle.draw.proofs.Shelves.{shelf-drawn, shelves-same}
+use Rattle.draw.proofs.Shelves.{shelf-done, shelves-same}
 use Rattle.draw.proofs.Gathering.{all-from, all-ascending, gathered-has, sixteen-same, sixteen-smallest}
 use Rattle.draw.proofs.Chosen.{smallest-once}
 use Rattle.draw.proofs.Laying.{commitment-same}
@@ -29,7 +29,7 @@ counted book shelf = ap (λ (n : ℕ). cellsOn n shelf) (sym (addresses-length b
 
 pub each-hashes-to-its-record : EachHashesToItsRecord
 each-hashes-to-its-record book shelf anchor sample e =
-    ap (λ (cells : List Cell). map ownAddress cells) (counted book shelf) ∙ shelf-drawn 0 (addressesIn book) shelf (draw-good book shelf anchor sample e .read)
+    ap (λ (cells : List Cell). map ownAddress cells) (counted book shelf) ∙ shelf-done 0 (addressesIn book) shelf (draw-good book shelf anchor sample e .read)
 
 pub the-sixteen-smallest : TheSixteenSmallest
 unfolding sixteenDrawn
@@ -63,11 +63,11 @@ sixteen-is book shelf anchor = ap (λ (cells : List Cell). sixteen (map (pairOf 
 
 -- the same pairs are gathered, from any two shelves beside the same addresses
 pairs-same : (book shelf book′ shelf′ anchor : List ℕ) (hashed : List (List ℕ)) → addressesIn book ≡ addressesIn book′
-    → shelfAnswer 0 (addressesIn book) shelf ≡ Drawn → shelfAnswer 0 (addressesIn book′) shelf′ ≡ Drawn
+    → shelfAnswer 0 (addressesIn book) shelf ≡ Done → shelfAnswer 0 (addressesIn book′) shelf′ ≡ Done
     → Among (drawHashed book shelf anchor) hashed → Among (drawHashed book′ shelf′ anchor) hashed
     → (sixteenDrawn book shelf anchor ≡ sixteenDrawn book′ shelf′ anchor) ⊎ Collision hashed
 pairs-same book shelf book′ shelf′ anchor hashed one e f w w′ =
-    let there : shelfAnswer 0 (addressesIn book) shelf′ ≡ Drawn = ap (λ (l : List (List ℕ)). shelfAnswer 0 l shelf′) one ∙ f in
+    let there : shelfAnswer 0 (addressesIn book) shelf′ ≡ Done = ap (λ (l : List (List ℕ)). shelfAnswer 0 l shelf′) one ∙ f in
     let cells : cellsOn (length (addressesIn book)) shelf′ ≡ cellsOn (length (addressesIn book′)) shelf′ =
     ap (λ (l : List (List ℕ)). cellsOn (length l) shelf′) one in
     let within : Among (cellsHashed anchor (cellsOn (length (addressesIn book)) shelf′)) hashed =

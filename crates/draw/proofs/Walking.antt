@@ -5,37 +5,33 @@ use mathlib.Core.List.{List, [], _∷_, map}
 use Prim.Native.Nat.{ℕ, suc, _+_, _-_, _*_, _≤_, _<_}
 use native.Mathlib.Numerals.{add-one}
 use native.Mathlib.Omega.{arith}
-use lib.ListN.{length, take, drop, length-drop}
-use lib.Seq.{take-take, take-all, drop-drop}
-use Rattle.octets.specs.Pieces.{pieces}
-use Rattle.octets.proofs.Edits.{part-of-take}
+use lib.ListN.{length, take, drop, length-drop, drop-of-length-le, List·getD-map}
+use lib.Seq.{take-all, drop-drop, drop-cons}
 use Rattle.reserve.specs.Record.{addressIn}
-use Rattle.reserve.specs.Layout.{capacityIn, countIn}
+use Rattle.reserve.specs.Layout.{capacityIn, countIn, recordsIn, recordIn}
 use Rattle.reserve.specs.Check.{labelled, sized, wellFormed}
-use Rattle.reserve.proofs.Cuts.{records-from, records-none}
 use Rattle.reserve.proofs.Tested.{sized-true}
 use Rattle.draw.specs.Answer.{andThen}
 use Rattle.draw.specs.Shelf.{pairOf, sizeIn, cellIn, behind, cellsOn, cellAnswer, shelfAnswer}
 use Rattle.draw.specs.Sample.{entered, gathered, sixteen}
-use Rattle.draw.specs.Draw.{cellsDrawn, pairsDrawn, sixteenDrawn}
+use Rattle.draw.specs.Draw.{addressesIn, cellsDrawn, pairsDrawn, sixteenDrawn}
 use Rattle.draw.proofs.Gathering.{take-gathered}
+use Rattle.draw.proofs.Answered.{addresses-length}
 
 -- the addresses of the records from place i on
 abbrev pub addressesFrom : ℕ → List ℕ → List (List ℕ)
-addressesFrom i book = map addressIn (pieces 145 (countIn book - i) (drop (48 + 145 * i) book))
+addressesFrom i book = drop i (addressesIn book)
 
 -- the address of record i
 abbrev pub addressAt : ℕ → List ℕ → List ℕ
-addressAt i book = take 32 (drop (96 + 145 * i) book)
-
-address-at : (i : ℕ) (book : List ℕ) → addressIn (take 145 (drop (48 + 145 * i) book)) ≡ addressAt i book
-address-at i book =
-    let there = drop (48 + 145 * i) book in
-    let e : 48 + 145 * i + 48 ≡ 96 + 145 * i = omega arith in
-    ap (take 32) (part-of-take 48 97 there) ∙ take-take 32 97 (drop 48 there) (omega arith) ∙ ap (take 32) (drop-drop 48 (48 + 145 * i) book ∙ ap (λ (n : ℕ). drop n book) e)
+addressAt i book = addressIn (recordIn book i)
 
 addresses-first : (i : ℕ) (book : List ℕ) → i < countIn book → addressesFrom i book ≡ addressAt i book ∷ addressesFrom (i + 1) book
-addresses-first i book h = ap (map addressIn) (records-from book (countIn book) i h) ∙ ap (λ (a : List ℕ). a ∷ addressesFrom (i + 1) book) (address-at i book)
+unfolding recordIn
+addresses-first i book h =
+    drop-cons (addressesIn book) i [] (omega (arith, addresses-length book))
+    ∙ ap (λ (a : List ℕ). a ∷ addressesFrom (suc i) book) (List·getD-map addressIn (recordsIn book) i [])
+    ∙ rw add-one
 
 -- ---- what is answered
 
@@ -45,7 +41,8 @@ unfolding shelfAnswer
 answer-turn i book s h = ap (λ (l : List (List ℕ)). shelfAnswer i l s) (addresses-first i book h) ∙ rw add-one
 
 pub answer-last : (i : ℕ) (book s : List ℕ) → countIn book ≤ i → shelfAnswer i (addressesFrom i book) s ≡ shelfAnswer i [] s
-answer-last i book s h = ap (λ (l : List (List ℕ)). shelfAnswer i (map addressIn l) s) (records-none book (countIn book) i h)
+answer-last i book s h =
+    ap (λ (l : List (List ℕ)). shelfAnswer i l s) (drop-of-length-le (addressesIn book) {i = i} (omega (arith, addresses-length book)))
 
 -- ---- what is gathered
 
@@ -74,11 +71,6 @@ ahead-last anchor held n i s h k =
 
 pub rest-is : (at : ℕ) (shelf : List ℕ) → take (length shelf - at) (drop at shelf) ≡ drop at shelf
 rest-is at shelf = take-all (length shelf - at) (drop at shelf) (omega (arith, length-drop at shelf))
-
-pub recorded-is : (i : ℕ) (book : List ℕ) → take (96 + 145 * i + 32 - (96 + 145 * i)) (drop (96 + 145 * i) book) ≡ addressAt i book
-recorded-is i book =
-    let width : 96 + 145 * i + 32 - (96 + 145 * i) ≡ 32 = omega arith in
-    ap (λ (n : ℕ). take n (drop (96 + 145 * i) book)) width
 
 pub behind-at : (at size : ℕ) (shelf : List ℕ) → size ≡ 10 + sizeIn (drop at shelf) → behind (drop at shelf) ≡ drop (at + size) shelf
 unfolding behind

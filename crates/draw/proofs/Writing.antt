@@ -6,10 +6,10 @@ use native.Mathlib.Omega.{arith}
 use lib.ListN.{length, take, drop, length-append, length-take}
 use lib.Seq.{take-take, take-at, drop-drop, length-take-le}
 use Rattle.octets.specs.Moving.{over, placed}
+use Rattle.octets.specs.Pieces.{pieces}
 use Rattle.octets.proofs.Edits.{part-of-take, part-length, placed-fits, length-over}
+use Rattle.octets.proofs.Pieces.{pieces-last}
 use Rattle.draw.specs.Sample.{addressFirst, written}
-use Rattle.draw.specs.Pieces.{pieces}
-use Rattle.draw.proofs.Pieces.{pieces-last}
 
 pub written-nil : written [] ≡ []
 unfolding written
@@ -33,9 +33,9 @@ take-put s at v h =
 
 -- one more pair: its address from `i` pairs on, then its anchored address
 pub written-more : (sample best : List ℕ) (i : ℕ) → length sample ≡ 1024 → length best ≡ 1024 → i < 16
-    → take (64 * i) sample ≡ written (pieces i best)
+    → take (64 * i) sample ≡ written (pieces 64 i best)
     → take (64 * (i + 1)) (placed (placed sample (64 * i) (take 32 (drop (64 * i + 32) best))) (64 * i + 32) (take 32 (drop (64 * i) best)))
-    ≡ written (pieces (i + 1) best)
+    ≡ written (pieces 64 (i + 1) best)
 written-more sample best i ls lb h e =
     let at = 64 * i in
     let address = take 32 (drop (at + 32) best) in
@@ -56,6 +56,6 @@ written-more sample best i ls lb h e =
     ∙ ap (λ (n : ℕ). take n (over once (at + 32) anchored)) end
     ∙ take-put once (at + 32) anchored (omega arith)
     ∙ ap (λ (t : List ℕ). t ++ anchored) (ap (λ (n : ℕ). take n once) middle ∙ take-put sample at address (omega arith) ∙ ap (λ (t : List ℕ). t ++ address) e)
-    ∙ append-assoc (written (pieces i best)) address anchored
-    ∙ ap (λ (t : List ℕ). written (pieces i best) ++ t) (sym (written-one pair ∙ ap₂ _++_ back front))
-    ∙ sym (ap written (pieces-last i best) ∙ written-append (pieces i best) (pair ∷ []))
+    ∙ append-assoc (written (pieces 64 i best)) address anchored
+    ∙ ap (λ (t : List ℕ). written (pieces 64 i best) ++ t) (sym (written-one pair ∙ ap₂ _++_ back front))
+    ∙ sym (ap written (pieces-last 64 i best) ∙ written-append (pieces 64 i best) (pair ∷ []))

@@ -4,12 +4,12 @@ use mathlib.Core.List.{List}
 use Prim.Native.Nat.{ℕ}
 use lib.ListN.{replicate}
 use Rattle.draw.specs.declared.answer.DrawAnswer.{DrawAnswer}
-use Rattle.draw.specs.declared.answer.DrawAnswer.the-variants.{Drawn, BadBook, Overfull, WrongLength, ShelfEnds, TooLong, Mismatch, Left, TooFew}
+use Rattle.draw.specs.declared.answer.DrawAnswer.the-variants.{Done, NotWellFormed, Overfull, WrongLength, ShelfEnds, TooLong, Mismatch, Left, TooFew}
 use Rattle.draw.specs.declared.answer.DrawResult.{DrawResult}
 
 abbrev pub drawNumber : DrawAnswer → ℕ
-drawNumber Drawn = 0
-drawNumber BadBook = 13
+drawNumber Done = 0
+drawNumber NotWellFormed = 13
 drawNumber Overfull = 14
 drawNumber WrongLength = 10
 drawNumber (ShelfEnds place) = 23
@@ -20,8 +20,8 @@ drawNumber TooFew = 26
 
 -- "23, 12 and 24 (any answer about a cell) also name the record's place, from 0; every other answer of the draw names place 0."
 abbrev pub drawPlace : DrawAnswer → ℕ
-drawPlace Drawn = 0
-drawPlace BadBook = 0
+drawPlace Done = 0
+drawPlace NotWellFormed = 0
 drawPlace Overfull = 0
 drawPlace WrongLength = 0
 drawPlace (ShelfEnds place) = place
@@ -30,21 +30,21 @@ drawPlace (Mismatch place) = place
 drawPlace Left = 0
 drawPlace TooFew = 0
 
-abbrev pub isDrawn : DrawAnswer → Bool
-isDrawn Drawn = true
-isDrawn BadBook = false
-isDrawn Overfull = false
-isDrawn WrongLength = false
-isDrawn (ShelfEnds place) = false
-isDrawn (TooLong place) = false
-isDrawn (Mismatch place) = false
-isDrawn Left = false
-isDrawn TooFew = false
+abbrev pub isDone : DrawAnswer → Bool
+isDone Done = true
+isDone NotWellFormed = false
+isDone Overfull = false
+isDone WrongLength = false
+isDone (ShelfEnds place) = false
+isDone (TooLong place) = false
+isDone (Mismatch place) = false
+isDone Left = false
+isDone TooFew = false
 
 -- the first refusal speaks: what follows is asked only where nothing was refused yet
 abbrev pub andThen : DrawAnswer → DrawAnswer → DrawAnswer
-andThen Drawn next = next
-andThen BadBook next = BadBook
+andThen Done next = next
+andThen NotWellFormed next = NotWellFormed
 andThen Overfull next = Overfull
 andThen WrongLength next = WrongLength
 andThen (ShelfEnds place) next = ShelfEnds place
@@ -54,16 +54,16 @@ andThen Left next = Left
 andThen TooFew next = TooFew
 
 -- what is handed back, or left in a lent buffer: `done` where a hash was drawn, `kept` beside every refusal
-abbrev pub onlyDrawn : DrawAnswer → List ℕ → List ℕ → List ℕ
-onlyDrawn Drawn done kept = done
-onlyDrawn BadBook done kept = kept
-onlyDrawn Overfull done kept = kept
-onlyDrawn WrongLength done kept = kept
-onlyDrawn (ShelfEnds place) done kept = kept
-onlyDrawn (TooLong place) done kept = kept
-onlyDrawn (Mismatch place) done kept = kept
-onlyDrawn Left done kept = kept
-onlyDrawn TooFew done kept = kept
+abbrev pub onlyDone : DrawAnswer → List ℕ → List ℕ → List ℕ
+onlyDone Done done kept = done
+onlyDone NotWellFormed done kept = kept
+onlyDone Overfull done kept = kept
+onlyDone WrongLength done kept = kept
+onlyDone (ShelfEnds place) done kept = kept
+onlyDone (TooLong place) done kept = kept
+onlyDone (Mismatch place) done kept = kept
+onlyDone Left done kept = kept
+onlyDone TooFew done kept = kept
 
 -- a refusal hands back zeros for a commitment
 abbrev pub refused : DrawAnswer → DrawResult

@@ -8,9 +8,9 @@ use Rattle.reserve.specs.Record.{addressIn}
 use Rattle.reserve.specs.Layout.{stateIn, countIn, recordsIn}
 use Rattle.reserve.specs.Check.{wellFormed}
 use Rattle.draw.specs.declared.answer.DrawAnswer.{DrawAnswer}
-use Rattle.draw.specs.declared.answer.DrawAnswer.the-variants.{Drawn, BadBook, Overfull, WrongLength, TooFew}
+use Rattle.draw.specs.declared.answer.DrawAnswer.the-variants.{Done, NotWellFormed, Overfull, WrongLength, TooFew}
 use Rattle.draw.specs.declared.answer.DrawResult.{DrawResult}
-use Rattle.draw.specs.Answer.{andThen, onlyDrawn}
+use Rattle.draw.specs.Answer.{andThen, onlyDone}
 use Rattle.draw.specs.Shelf.{Cell, pairOf, cellsHashed, cellsOn, shelfAnswer}
 use Rattle.draw.specs.Sample.{sixteen, written, commitmentOf, commitmentHashed}
 
@@ -33,24 +33,24 @@ unfoldable pub lentAnswer : List ℕ → List ℕ → List ℕ → DrawAnswer
 lentAnswer book anchor sample =
     cond (wellFormed book)
     (cond (eqb (stateIn book) 1) Overfull
-    (cond (eqb (length anchor) 32 && eqb (length sample) 1024) Drawn WrongLength))
-    BadBook
+    (cond (eqb (length anchor) 32 && eqb (length sample) 1024) Done WrongLength))
+    NotWellFormed
 
 -- ".. then cell by cell .., then 25, 26"
 unfoldable pub drawAnswer : List ℕ → List ℕ → List ℕ → List ℕ → DrawAnswer
 drawAnswer book shelf anchor sample =
     andThen (lentAnswer book anchor sample)
     (andThen (shelfAnswer 0 (addressesIn book) shelf)
-    (cond (ltb (length (sixteenDrawn book shelf anchor)) 16) TooFew Drawn))
+    (cond (ltb (length (sixteenDrawn book shelf anchor)) 16) TooFew Done))
 
 unfoldable pub drawn : List ℕ → List ℕ → List ℕ → List ℕ → DrawResult
 drawn book shelf anchor sample =
     let answer = drawAnswer book shelf anchor sample in
-    record { answer = answer; commitment = onlyDrawn answer (commitmentOf (sixteenDrawn book shelf anchor)) (replicate 32 0) }
+    record { answer = answer; commitment = onlyDone answer (commitmentOf (sixteenDrawn book shelf anchor)) (replicate 32 0) }
 
 -- the lent buffer afterwards
 unfoldable pub sampleAfter : List ℕ → List ℕ → List ℕ → List ℕ → List ℕ
-sampleAfter book shelf anchor sample = onlyDrawn (drawAnswer book shelf anchor sample) (written (sixteenDrawn book shelf anchor)) sample
+sampleAfter book shelf anchor sample = onlyDone (drawAnswer book shelf anchor sample) (written (sixteenDrawn book shelf anchor)) sample
 
 -- the messages hashed by a draw that gives a hash: both addresses of every cell, and the commitment's
 unfoldable pub drawHashed : List ℕ → List ℕ → List ℕ → List (List ℕ)

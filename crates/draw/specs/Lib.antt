@@ -3,7 +3,7 @@ pub mod Answer
 pub mod Shelf
 pub mod Sample
 pub mod Draw
-pub mod Pieces
+pub mod Inside
 pub mod Theorems
 pub mod Determined
 pub mod Refused

@@ -7,9 +7,9 @@ use native.Mathlib.Omega.{arith}
 use lib.ListN.{replicate}
 use Rattle.chunk.specs.Refused.{Refusal}
 use Rattle.draw.specs.declared.answer.DrawAnswer.{DrawAnswer}
-use Rattle.draw.specs.declared.answer.DrawAnswer.the-variants.{Drawn, BadBook, Overfull, WrongLength, ShelfEnds, TooLong, Mismatch, Left, TooFew}
+use Rattle.draw.specs.declared.answer.DrawAnswer.the-variants.{Done, NotWellFormed, Overfull, WrongLength, ShelfEnds, TooLong, Mismatch, Left, TooFew}
 use Rattle.draw.specs.declared.answer.DrawResult.{DrawResult}
-use Rattle.draw.specs.Answer.{drawNumber, onlyDrawn}
+use Rattle.draw.specs.Answer.{drawNumber, onlyDone}
 use Rattle.draw.specs.Sample.{written, commitmentOf}
 use Rattle.draw.specs.Draw.{sixteenDrawn, drawAnswer, drawn, sampleAfter}
 
@@ -17,9 +17,9 @@ done-is-none : {A : Type 0} → Refusal 0 → A
 done-is-none (inl h) = absurd (omega arith)
 done-is-none (inr h) = absurd (omega arith)
 
-untouched : (a : DrawAnswer) (done kept : List ℕ) → Refusal (drawNumber a) → onlyDrawn a done kept ≡ kept
-untouched Drawn done kept h = done-is-none h
-untouched BadBook done kept h = refl
+untouched : (a : DrawAnswer) (done kept : List ℕ) → Refusal (drawNumber a) → onlyDone a done kept ≡ kept
+untouched Done done kept h = done-is-none h
+untouched NotWellFormed done kept h = refl
 untouched Overfull done kept h = refl
 untouched WrongLength done kept h = refl
 untouched (ShelfEnds place) done kept h = refl

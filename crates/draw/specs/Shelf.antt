@@ -10,7 +10,7 @@ use Rattle.octets.specs.declared.order.Order.{Order}
 use Rattle.octets.specs.declared.order.Order.the-variants as Ordered
 use Rattle.chunk.specs.Tree.{addressOf, addressHashed}
 use Rattle.draw.specs.declared.answer.DrawAnswer.{DrawAnswer}
-use Rattle.draw.specs.declared.answer.DrawAnswer.the-variants.{Drawn, ShelfEnds, TooLong, Mismatch, Left}
+use Rattle.draw.specs.declared.answer.DrawAnswer.the-variants.{Done, ShelfEnds, TooLong, Mismatch, Left}
 use Rattle.draw.specs.Answer.{andThen}
 
 -- ---- a chunk on the shelf
@@ -54,7 +54,7 @@ cellsOn (suc n) s = cellIn s ∷ cellsOn n (behind s)
 
 abbrev pub matching : ℕ → Order → DrawAnswer
 matching place Ordered.Less = Mismatch place
-matching place Ordered.Same = Drawn
+matching place Ordered.Same = Done
 matching place Ordered.More = Mismatch place
 
 -- the cell of the record with this place and address: "23, 12, 24 .. 12 is given once a cell's length is read, before its data is sought"
@@ -67,5 +67,5 @@ cellAnswer place address s =
 
 -- the cells of the records with these addresses, from this place on, and nothing behind them
 unfoldable pub shelfAnswer : ℕ → List (List ℕ) → List ℕ → DrawAnswer
-shelfAnswer place [] s = cond (eqb (length s) 0) Drawn Left
+shelfAnswer place [] s = cond (eqb (length s) 0) Done Left
 shelfAnswer place (address ∷ addresses) s = andThen (cellAnswer place address s) (shelfAnswer (suc place) addresses (behind s))

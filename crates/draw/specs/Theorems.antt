@@ -7,7 +7,7 @@ use lib.ListN.{length, getD}
 use Rattle.octets.specs.Bytes.{Bytes}
 use Rattle.keccak.specs.Collision.{Collision}
 use Rattle.reserve.specs.Layout.{stateIn, countIn, WellFormed}
-use Rattle.draw.specs.declared.answer.DrawAnswer.the-variants.{Drawn}
+use Rattle.draw.specs.declared.answer.DrawAnswer.the-variants.{Done}
 use Rattle.draw.specs.Answer.{drawNumber, drawPlace}
 use Rattle.draw.specs.Shelf.{ownAddress, sizeIn, cellIn, behind}
 use Rattle.draw.specs.Sample.{gathered, sixteen, Ascending, SixteenSmallest}
@@ -90,13 +90,13 @@ DrawAnswers =
 -- Where a hash is drawn, the chunks on the shelf are the book's, record by record.
 abbrev pub EachHashesToItsRecord : Type 0
 EachHashesToItsRecord =
-    (book shelf anchor sample : List ℕ) → drawAnswer book shelf anchor sample ≡ Drawn → map ownAddress (cellsDrawn book shelf) ≡ addressesIn book
+    (book shelf anchor sample : List ℕ) → drawAnswer book shelf anchor sample ≡ Done → map ownAddress (cellsDrawn book shelf) ≡ addressesIn book
 
 -- Where a hash is drawn, the sample is sixteen different pairs, ascending, each of a record's chunk, and every pair not taken is larger
 -- than all taken.
 abbrev pub TheSixteenSmallest : Type 0
 TheSixteenSmallest =
-    (book shelf anchor sample : List ℕ) → drawAnswer book shelf anchor sample ≡ Drawn
+    (book shelf anchor sample : List ℕ) → drawAnswer book shelf anchor sample ≡ Done
     → SixteenSmallest (pairsDrawn book shelf anchor) (sixteenDrawn book shelf anchor)
 
 -- Those words leave no second choice, whatever the order of the pairs and however often one comes.
@@ -122,7 +122,7 @@ OrderDoesNotMatter =
 abbrev pub OneAnchorOneHash : Type 0
 OneAnchorOneHash =
     (book shelf sample book′ shelf′ sample′ anchor : List ℕ) → addressesIn book ≡ addressesIn book′
-    → drawAnswer book shelf anchor sample ≡ Drawn → drawAnswer book′ shelf′ anchor sample′ ≡ Drawn
+    → drawAnswer book shelf anchor sample ≡ Done → drawAnswer book′ shelf′ anchor sample′ ≡ Done
     → (drawn book shelf anchor sample .commitment ≡ drawn book′ shelf′ anchor sample′ .commitment)
     ⊎ Collision (drawHashed book shelf anchor ++ drawHashed book′ shelf′ anchor)
 
@@ -131,7 +131,7 @@ OneAnchorOneHash =
 abbrev pub OneHashOneSample : Type 0
 OneHashOneSample =
     (book shelf anchor sample book′ shelf′ anchor′ sample′ : List ℕ)
-    → drawAnswer book shelf anchor sample ≡ Drawn → drawAnswer book′ shelf′ anchor′ sample′ ≡ Drawn
+    → drawAnswer book shelf anchor sample ≡ Done → drawAnswer book′ shelf′ anchor′ sample′ ≡ Done
     → drawn book shelf anchor sample .commitment ≡ drawn book′ shelf′ anchor′ sample′ .commitment
     → ((sixteenDrawn book shelf anchor ≡ sixteenDrawn book′ shelf′ anchor′) × (sampleAfter book shelf anchor sample ≡ sampleAfter book′ shelf′ anchor′ sample′))
     ⊎ Collision (drawHashed book shelf anchor ++ drawHashed book′ shelf′ anchor′)

@@ -1,11 +1,11 @@
 // What a draw answers.
 ghost use mathlib.Core.Path.{_≡_};
-ghost use Rattle.draw.specs.Answer.{drawNumber, drawPlace, isDrawn, refused};
+ghost use Rattle.draw.specs.Answer.{drawNumber, drawPlace, isDone, refused};
 
 // Answers about a cell of the shelf name the place of its record, from 0.
 pub enum DrawAnswer {
-    Drawn,
-    BadBook,
+    Done,
+    NotWellFormed,
     Overfull,
     WrongLength,
     ShelfEnds(u32),
@@ -27,8 +27,8 @@ impl DrawAnswer {
         ensures { λ r. ⌜ r ≡ drawNumber self ⌝ }
     {
         match self {
-            DrawAnswer::Drawn => 0,
-            DrawAnswer::BadBook => 13,
+            DrawAnswer::Done => 0,
+            DrawAnswer::NotWellFormed => 13,
             DrawAnswer::Overfull => 14,
             DrawAnswer::WrongLength => 10,
             DrawAnswer::ShelfEnds(_) => 23,
@@ -44,8 +44,8 @@ impl DrawAnswer {
         ensures { λ r. ⌜ r ≡ drawPlace self ⌝ }
     {
         match self {
-            DrawAnswer::Drawn => 0,
-            DrawAnswer::BadBook => 0,
+            DrawAnswer::Done => 0,
+            DrawAnswer::NotWellFormed => 0,
             DrawAnswer::Overfull => 0,
             DrawAnswer::WrongLength => 0,
             DrawAnswer::ShelfEnds(place) => place,
@@ -57,12 +57,12 @@ impl DrawAnswer {
     }
 
     // Whether nothing was refused.
-    pub(crate) fn is_drawn(self) -> bool
-        ensures { λ r. ⌜ r ≡ isDrawn self ⌝ }
+    pub(crate) fn is_done(self) -> bool
+        ensures { λ r. ⌜ r ≡ isDone self ⌝ }
     {
         match self {
-            DrawAnswer::Drawn => true,
-            DrawAnswer::BadBook => false,
+            DrawAnswer::Done => true,
+            DrawAnswer::NotWellFormed => false,
             DrawAnswer::Overfull => false,
             DrawAnswer::WrongLength => false,
             DrawAnswer::ShelfEnds(_) => false,

@@ -28,7 +28,7 @@ pub(crate) fn cell_answer(rest: &[u8], recorded: &[u8], place: u32) -> DrawAnswe
     let digest = own.digest;
     match compare(&digest, recorded) {
         Order::Less => DrawAnswer::Mismatch(place),
-        Order::Same => DrawAnswer::Drawn,
+        Order::Same => DrawAnswer::Done,
         Order::More => DrawAnswer::Mismatch(place),
     }
 }

@@ -10,12 +10,13 @@ use reserve::check::BookAnswer;
 use reserve::check::check_book;
 use reserve::header::count;
 use reserve::header::overfull;
+use reserve::record::record_at;
 ghost use mathlib.Core.Path.{_≡_};
 ghost use Prim.Native.Nat.{_+_, _*_, _≤_};
 ghost use lib.ListN.{length};
 ghost use Rattle.reserve.specs.Layout.{countIn};
 ghost use Rattle.draw.specs.Draw.{lentAnswer, drawn, sampleAfter};
-ghost use Rattle.draw.specs.Pieces.{Collects, ReadsCell};
+ghost use Rattle.draw.specs.Inside.{Collects, ReadsCell};
 
 // How the walk along the shelf ended, and how many pairs are held then.
 pub(crate) struct Collected {
@@ -36,13 +37,13 @@ pub fn draw(book: &[u8], shelf: &[u8], anchor: &[u8], sample: &mut [u8]) -> Draw
     ensures bytes { λ _. ⌜ now (sample .exit) ≡ sampleAfter (now (book .entry)) (now (shelf .entry)) (now (anchor .entry)) (now (sample .entry)) ⌝ }
 {
     let lent = lent_answer(book, anchor, sample);
-    if !lent.is_drawn() {
+    if !lent.is_done() {
         return lent.refused();
     }
     let mut best = [0u8; 1024];
     let collected = collect(book, shelf, anchor, &mut best);
     let answer = collected.answer;
-    if !answer.is_drawn() {
+    if !answer.is_done() {
         return answer.refused();
     }
     if collected.held < 16 {
@@ -52,7 +53,7 @@ pub fn draw(book: &[u8], shelf: &[u8], anchor: &[u8], sample: &mut [u8]) -> Draw
     let committed = chunk::address(b"\x00\x04\x00\x00\x00\x00\x00\x00", sample);
     let commitment = committed.digest;
     DrawResult {
-        answer: DrawAnswer::Drawn,
+        answer: DrawAnswer::Done,
         commitment,
     }
 }
@@ -62,7 +63,7 @@ fn lent_answer(book: &[u8], anchor: &[u8], sample: &[u8]) -> DrawAnswer
     ensures { λ r. ⌜ r ≡ lentAnswer (now (book .entry)) (now (anchor .entry)) (now (sample .entry)) ⌝ }
 {
     match check_book(book) {
-        BookAnswer::NotWellFormed => return DrawAnswer::BadBook,
+        BookAnswer::NotWellFormed => return DrawAnswer::NotWellFormed,
         BookAnswer::WellFormed => {}
     }
     if overfull(book) {
@@ -74,7 +75,7 @@ fn lent_answer(book: &[u8], anchor: &[u8], sample: &[u8]) -> DrawAnswer
     if sample.len() != 1024 {
         return DrawAnswer::WrongLength;
     }
-    DrawAnswer::Drawn
+    DrawAnswer::Done
 }
 
 // Each cell of `shelf` against its record, and the smallest pairs in `best`.
@@ -87,19 +88,11 @@ fn collect(book: &[u8], shelf: &[u8], anchor: &[u8], best: &mut [u8]) -> Collect
     let mut held = 0;
     let mut i = 0;
     while i < records {
-        // A record's address stands behind its slot and time, 48 bytes, and the first record behind the header, 48 more.
-        let start = 96 + 145 * i;
-        let end = start + 32;
-        let read = read_cell(
-            &shelf[at..],
-            &book[start..end],
-            i as u32,
-            anchor,
-            best,
-            held,
-        );
+        let record = record_at(book, i);
+        // A record's address stands behind its slot and its time.
+        let read = read_cell(&shelf[at..], &record[48..80], i as u32, anchor, best, held);
         let answer = read.answer;
-        if !answer.is_drawn() {
+        if !answer.is_done() {
             return Collected { answer, held };
         }
         held = read.held;
@@ -113,7 +106,7 @@ fn collect(book: &[u8], shelf: &[u8], anchor: &[u8], best: &mut [u8]) -> Collect
         };
     }
     Collected {
-        answer: DrawAnswer::Drawn,
+        answer: DrawAnswer::Done,
         held,
     }
 }
@@ -131,7 +124,7 @@ fn read_cell(
     ensures { λ r. ⌜ ReadsCell (now (rest .entry)) (now (recorded .entry)) place (now (anchor .entry)) (now (best .entry)) held r (now (best .exit)) ⌝ }
 {
     let answer = cell_answer(rest, recorded, place);
-    if !answer.is_drawn() {
+    if !answer.is_done() {
         return CellRead {
             answer,
             size: 0,

@@ -6,8 +6,9 @@ use octets::order::compare;
 ghost use mathlib.Core.Path.{_≡_};
 ghost use Prim.Native.Nat.{_*_, _≤_, min};
 ghost use lib.ListN.{length, take};
+ghost use Rattle.octets.specs.Pieces.{pieces};
 ghost use Rattle.draw.specs.Sample.{entered, written};
-ghost use Rattle.draw.specs.Pieces.{pieces, Belongs};
+ghost use Rattle.draw.specs.Inside.{Belongs};
 
 // Where a pair belongs among those that are held.
 pub(crate) enum Found {
@@ -18,7 +19,7 @@ pub(crate) enum Found {
 // `pair` among the `held` pairs of `best`, once and in its place; the last of sixteen gives way. It hands back how many are held then.
 pub(crate) fn enter(best: &mut [u8], held: usize, pair: &[u8]) -> usize
     requires { ⌜ (length (now best) ≡ 1024) × ((held ≤ 16) × (length (now pair) ≡ 64)) ⌝ }
-    ensures { λ r. ⌜ (length (now (best .exit)) ≡ 1024) × ((r ≤ 16) × (pieces r (now (best .exit)) ≡ take 16 (entered (now (pair .entry)) (pieces held (now (best .entry)))))) ⌝ }
+    ensures { λ r. ⌜ (length (now (best .exit)) ≡ 1024) × ((r ≤ 16) × (pieces 64 r (now (best .exit)) ≡ take 16 (entered (now (pair .entry)) (pieces 64 held (now (best .entry)))))) ⌝ }
 {
     let Found::At(place) = place_of(best, held, pair) else {
         return held;
@@ -34,7 +35,7 @@ pub(crate) fn enter(best: &mut [u8], held: usize, pair: &[u8]) -> usize
 // Where `pair` belongs among the `held` pairs of `best`.
 fn place_of(best: &[u8], held: usize, pair: &[u8]) -> Found
     requires { ⌜ 64 * held ≤ length (now best) ⌝ }
-    ensures { λ r. ⌜ Belongs r (now (pair .entry)) (pieces held (now (best .entry))) ⌝ }
+    ensures { λ r. ⌜ Belongs r (now (pair .entry)) (pieces 64 held (now (best .entry))) ⌝ }
 {
     let mut i = 0;
     while i < held {
@@ -59,7 +60,7 @@ fn lesser(a: usize, b: usize) -> usize
 // The sixteen pairs of `best`, over `sample`, each as address, anchored address.
 pub(crate) fn write_out(sample: &mut [u8], best: &[u8])
     requires { ⌜ (length (now sample) ≡ 1024) × (length (now best) ≡ 1024) ⌝ }
-    ensures { λ _. ⌜ now (sample .exit) ≡ written (pieces 16 (now (best .entry))) ⌝ }
+    ensures { λ _. ⌜ now (sample .exit) ≡ written (pieces 64 16 (now (best .entry))) ⌝ }
 {
     let mut i = 0;
     while i < 16 {

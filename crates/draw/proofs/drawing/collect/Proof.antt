@@ -1,18 +1,22 @@
 -- The invariant: what is left to answer and to gather is what there was at the start.
-use mathlib.Core.Path.{sym, _∙_}
-use Prim.Native.Nat.{_+_, _-_}
+use mathlib.Core.Path.{_≡_, sym, ap, _∙_}
+use Prim.Native.Nat.{_+_, _-_, _<_}
 use native.Mathlib.Omega.{arith}
 use borrow.Author.Needs.{needs}
 use borrow.Author.Tests.{not-true, not-false}
+use lib.ListN.{length}
+use Rattle.reserve.specs.Layout.{countIn}
 use Rattle.reserve.proofs.Fields.{count-there}
+use Rattle.reserve.proofs.Records.{record-length}
 use Rattle.draw.proofs.Collecting.{Walked, walk-starts, walk-turn, walk-refused, walk-left, walk-ends}
 use Rattle.draw.proofs.drawing.collect.Statement.{statement}
 use Rattle.draw.proofs.drawing.collect.Tie as tie
 use Rattle.draw.proofs.drawing.collect.Reads as reads
 use Rattle.draw.proofs.drawing.collect.Lts as lts
-use Rattle.draw.proofs.answer.DrawAnswer.is_drawn.Reads as is-drawn-reads
+use Rattle.draw.proofs.answer.DrawAnswer.is_done.Reads as is-done-reads
 use Rattle.draw.proofs.drawing.read_cell.Reads as read-cell-reads
 use Rattle.reserve.proofs.header.count.Reads as count-reads
+use Rattle.reserve.proofs.record.record_at.Reads as record-at-reads
 
 abbrev Inv-loop : tie.InvT-loop
 Inv-loop book shelf anchor best₀ records at₀ held₀ i₀ best at held i = Walked book shelf anchor records best at held i
@@ -29,14 +33,8 @@ loop-holds c =
     let a = k .args in
     walk-starts (a .book .now) (a .shelf .now) (a .anchor .now) (c .count .result) (a .best .now) (c .count .ensures ∙ count-there (a .book .now) (omega arith)) (k .pre .1 .1)
 
-mul-start : tie.Need-mul-start Inv-loop μ-loop
-mul-start c = search needs
-
-add-start : tie.Need-add-start Inv-loop μ-loop
-add-start c = search needs
-
-add-end : tie.Need-add-end Inv-loop μ-loop
-add-end c = search needs
+record-at-requires : tie.Need-record-at-requires Inv-loop μ-loop
+record-at-requires c κs = search needs
 
 sub-read-cell : tie.Need-sub-read-cell Inv-loop μ-loop
 sub-read-cell c = search needs
@@ -54,7 +52,13 @@ part-read-cell-start-2 : tie.Need-part-read-cell-start-2 Inv-loop μ-loop
 part-read-cell-start-2 c = search needs
 
 part-read-cell-end-2 : tie.Need-part-read-cell-end-2 Inv-loop μ-loop
-part-read-cell-end-2 c = search needs
+part-read-cell-end-2 c =
+    let f = c .before in
+    let at = f .before .before in
+    let b = at .before .before .before .before .before .before .args .book .now in
+    let there : at .loop .i < countIn b = omega (arith, at .loop .inv .counted) in
+    let long : length (f .record-at .result .now) ≡ 145 = ap length (f .record-at .ensures) ∙ record-length b (at .loop .i) there (omega arith) in
+    omega (arith, long)
 
 cast-read-cell : tie.Need-cast-read-cell Inv-loop μ-loop
 cast-read-cell c = search needs
@@ -62,8 +66,8 @@ cast-read-cell c = search needs
 read-cell-requires : tie.Need-read-cell-requires Inv-loop μ-loop
 read-cell-requires c κs = search needs
 
-is-drawn-requires : tie.Need-is-drawn-requires Inv-loop μ-loop
-is-drawn-requires c κs = search needs
+is-done-requires : tie.Need-is-done-requires Inv-loop μ-loop
+is-done-requires c κs = search needs
 
 same-length : tie.Need-same-length Inv-loop μ-loop
 same-length c = search needs
@@ -72,26 +76,29 @@ returns : tie.Need-returns Inv-loop μ-loop
 returns c =
     let d = c .before in
     let w = d .before .before .before in
-    let at = w .before .before .before .before .before in
+    let f = w .before .before .before .before in
+    let at = f .before .before in
     let l = at .loop in
     let a = at .before .before .before .before .before .before .args in
     walk-refused (a .book .now) (a .shelf .now) (a .anchor .now) (at .before .count .result) (l .best) (l .at) (l .held) (l .i) (l .inv) (omega arith)
-    (w .read-cell .result) _ (w .read-cell .ensures) (sym (d .is-drawn .ensures) ∙ not-true _ (c .if1 .taken))
+    (w .read-cell .result) _ _ (f .record-at .ensures) (w .read-cell .ensures) (sym (d .is-done .ensures) ∙ not-true _ (c .if1 .taken))
 
 -- the walk behind a cell that is passed
 turned : (e : tie.Else1 Inv-loop μ-loop) → let w = e .before .before .before .before in
-    let at = w .before .before .before .before .before in
+    let f = w .before .before .before .before in
+    let at = f .before .before in
     let a = at .before .before .before .before .before .before .args in
     Walked (a .book .now) (a .shelf .now) (a .anchor .now) (at .before .count .result) (w .read-cell .last .1 .1 .1 .1 .0) (at .loop .at + w .read-cell .result .size)
     (w .read-cell .result .held) (at .loop .i + 1)
 turned e =
     let d = e .before in
     let w = d .before .before .before in
-    let at = w .before .before .before .before .before in
+    let f = w .before .before .before .before in
+    let at = f .before .before in
     let l = at .loop in
     let a = at .before .before .before .before .before .before .args in
     walk-turn (a .book .now) (a .shelf .now) (a .anchor .now) (at .before .count .result) (l .best) (l .at) (l .held) (l .i) (l .inv) (omega arith)
-    (w .read-cell .result) _ (w .read-cell .ensures) (sym (d .is-drawn .ensures) ∙ not-false _ (e .if1 .left))
+    (w .read-cell .result) _ _ (f .record-at .ensures) (w .read-cell .ensures) (sym (d .is-done .ensures) ∙ not-false _ (e .if1 .left))
 
 add-at : tie.Need-add-at Inv-loop μ-loop
 add-at c = omega (arith, turned (c .before) .inside)
@@ -133,9 +140,7 @@ collect-spec =
     μ-loop
     count-requires
     loop-holds
-    mul-start
-    add-start
-    add-end
+    record-at-requires
     sub-read-cell
     part-read-cell-start
     part-read-cell-end
@@ -144,7 +149,7 @@ collect-spec =
     part-read-cell-end-2
     cast-read-cell
     read-cell-requires
-    is-drawn-requires
+    is-done-requires
     same-length
     returns
     add-at

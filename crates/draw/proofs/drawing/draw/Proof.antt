@@ -6,14 +6,13 @@ use native.Mathlib.Omega.{arith}
 use borrow.Author.Needs.{needs}
 use borrow.Author.Tests.{not-true, not-false}
 use lib.ListN.{length}
-use Rattle.draw.specs.declared.answer.DrawAnswer.the-variants.{Drawn}
-use Rattle.draw.specs.Answer.{isDrawn}
+use Rattle.octets.proofs.Pieces.{length-pieces}
+use Rattle.draw.specs.declared.answer.DrawAnswer.the-variants.{Done}
+use Rattle.draw.specs.Answer.{isDone}
 use Rattle.draw.specs.Draw.{sixteenDrawn, lentAnswer}
-use Rattle.draw.specs.Pieces.{pieces}
-use Rattle.draw.proofs.Pieces.{pieces-length}
-use Rattle.draw.proofs.Answered.{Lent, lent-drawn}
+use Rattle.draw.proofs.Answered.{Lent, lent-done}
 use Rattle.draw.proofs.Walking.{formed-long}
-use Rattle.draw.proofs.Collecting.{is-drawn}
+use Rattle.draw.proofs.Collecting.{is-done}
 use Rattle.draw.proofs.Handing.{refused-lent, refused-shelf, refused-few, all-done}
 use Rattle.draw.proofs.drawing.draw.Statement.{statement}
 use Rattle.draw.proofs.drawing.draw.Tie as tie
@@ -21,8 +20,8 @@ use Rattle.draw.proofs.drawing.draw.Tie as tie
 lent-answer-requires : tie.Need-lent-answer-requires
 lent-answer-requires c κs = search needs
 
-is-drawn-requires : tie.Need-is-drawn-requires
-is-drawn-requires c κs = search needs
+is-done-requires : tie.Need-is-done-requires
+is-done-requires c κs = search needs
 
 refused-requires : tie.Need-refused-requires
 refused-requires c κs = search needs
@@ -36,19 +35,19 @@ returns c =
     let d = t .before in
     let n = d .before in
     let a = n .before .before .before .before .before .before .args in
-    let given = refused-lent (a .book .now) (a .shelf .now) (a .anchor .now) (a .sample .now) (n .lent-answer .result) (n .lent-answer .ensures) (sym (d .is-drawn .ensures) ∙ not-true _ (t .if1 .taken)) in
+    let given = refused-lent (a .book .now) (a .shelf .now) (a .anchor .now) (a .sample .now) (n .lent-answer .result) (n .lent-answer .ensures) (sym (d .is-done .ensures) ∙ not-true _ (t .if1 .taken)) in
     (c .refused .ensures ∙ given .0, given .1)
 
 -- nothing was refused of book and lengths
-lent : (e : tie.Else1) → let a = e .before .before .before .before .before .before .before .before .args in isDrawn (lentAnswer (a .book .now) (a .anchor .now) (a .sample .now)) ≡ true
+lent : (e : tie.Else1) → let a = e .before .before .before .before .before .before .before .before .args in isDone (lentAnswer (a .book .now) (a .anchor .now) (a .sample .now)) ≡ true
 lent e =
     let d = e .before in
-    ap isDrawn (sym (d .before .lent-answer .ensures)) ∙ sym (d .is-drawn .ensures) ∙ not-false _ (e .if1 .left)
+    ap isDone (sym (d .before .lent-answer .ensures)) ∙ sym (d .is-done .ensures) ∙ not-false _ (e .if1 .left)
 
 well : (e : tie.Else1) → let a = e .before .before .before .before .before .before .before .before .args in Lent (a .book .now) (a .anchor .now) (a .sample .now)
 well e =
     let a = e .before .before .before .before .before .before .before .before .args in
-    lent-drawn (a .book .now) (a .anchor .now) (a .sample .now) (is-drawn (lentAnswer (a .book .now) (a .anchor .now) (a .sample .now)) (lent e))
+    lent-done (a .book .now) (a .anchor .now) (a .sample .now) (is-done (lentAnswer (a .book .now) (a .anchor .now) (a .sample .now)) (lent e))
 
 slice-aggregate-collect : tie.Need-slice-aggregate-collect
 slice-aggregate-collect c = search needs
@@ -60,8 +59,8 @@ collect-requires c κs =
     let w = well e in
     (formed-long (a .book .now) (w .formed), (w .anchor32, search needs))
 
-is-drawn-requires-2 : tie.Need-is-drawn-requires-2
-is-drawn-requires-2 c κs = search needs
+is-done-requires-2 : tie.Need-is-done-requires-2
+is-done-requires-2 c κs = search needs
 
 refused-requires-2 : tie.Need-refused-requires-2
 refused-requires-2 c κs = search needs
@@ -76,14 +75,14 @@ returns-2 c =
     let k = d .before .before in
     let e = k .before .before in
     let a = e .before .before .before .before .before .before .before .before .args in
-    let given = refused-shelf (a .book .now) (a .shelf .now) (a .anchor .now) (a .sample .now) (lent e) (k .collect .result .answer) (k .collect .ensures .answered) (sym (d .is-drawn2 .ensures) ∙ not-true _ (t .if2 .taken)) in
+    let given = refused-shelf (a .book .now) (a .shelf .now) (a .anchor .now) (a .sample .now) (lent e) (k .collect .result .answer) (k .collect .ensures .answered) (sym (d .is-done2 .ensures) ∙ not-true _ (t .if2 .taken)) in
     (c .refused2 .ensures ∙ given .0, given .1)
 
 -- nor of the shelf
-read : (f : tie.Else2) → let k = f .before .before .before in k .collect .result .answer ≡ Drawn
+read : (f : tie.Else2) → let k = f .before .before .before in k .collect .result .answer ≡ Done
 read f =
     let d = f .before in
-    is-drawn (d .before .before .collect .result .answer) (sym (d .is-drawn2 .ensures) ∙ not-false _ (f .if2 .left))
+    is-done (d .before .before .collect .result .answer) (sym (d .is-done2 .ensures) ∙ not-false _ (f .if2 .left))
 
 refused-requires-3 : tie.Need-refused-requires-3
 refused-requires-3 c κs = search needs
@@ -100,8 +99,8 @@ returns-3 c =
     let a = e .before .before .before .before .before .before .before .before .args in
     let kept = k .collect .ensures .kept (read f) in
     let few : length (sixteenDrawn (a .book .now) (a .shelf .now) (a .anchor .now)) < 16 =
-    omega (arith, ap length kept, pieces-length (k .collect .result .held) (k .collect .last .1 .1 .1 .0), t .if3 .taken) in
-    let given = refused-few (a .book .now) (a .shelf .now) (a .anchor .now) (a .sample .now) (lent e) (ap isDrawn (sym (k .collect .ensures .answered) ∙ read f)) few in
+    omega (arith, ap length kept, length-pieces 64 (k .collect .result .held) (k .collect .last .1 .1 .1 .0), t .if3 .taken) in
+    let given = refused-few (a .book .now) (a .shelf .now) (a .anchor .now) (a .sample .now) (lent e) (ap isDone (sym (k .collect .ensures .answered) ∙ read f)) few in
     (c .refused3 .ensures ∙ given .0, given .1)
 
 slice-aggregate-write-out : tie.Need-slice-aggregate-write-out
@@ -130,7 +129,7 @@ returns-4 c =
     let k = f .before .before .before in
     let e = k .before .before in
     let a = e .before .before .before .before .before .before .before .before .args in
-    all-done (a .book .now) (a .shelf .now) (a .anchor .now) (a .sample .now) (lent e) (ap isDrawn (sym (k .collect .ensures .answered) ∙ read f))
+    all-done (a .book .now) (a .shelf .now) (a .anchor .now) (a .sample .now) (lent e) (ap isDone (sym (k .collect .ensures .answered) ∙ read f))
     (k .collect .last .1 .1 .1 .0) (o .write-out .last .0) (k .collect .result .held) (h .address .result) (omega (arith, l .if3 .left)) (k .collect .ensures .kept (read f)) (o .write-out .ensures) (h .address .ensures)
 
 pub draw-spec : {M : Type 1} → statement M
@@ -138,13 +137,13 @@ draw-spec =
     tie.close
     (tie.spec
     lent-answer-requires
-    is-drawn-requires
+    is-done-requires
     refused-requires
     same-length
     returns
     slice-aggregate-collect
     collect-requires
-    is-drawn-requires-2
+    is-done-requires-2
     refused-requires-2
     same-length-2
     returns-2

@@ -5,16 +5,16 @@ use Prim.Native.Nat.{ℕ, _+_}
 use borrow.Author.Needs.{needs}
 use borrow.Author.Tests.{not-true, not-false}
 use lib.ListN.{take}
+use Rattle.octets.specs.Pieces.{pieces}
 use Rattle.draw.specs.Sample.{entered}
-use Rattle.draw.specs.Pieces.{pieces}
-use Rattle.draw.proofs.Shelves.{Whole, cell-drawn}
+use Rattle.draw.proofs.Shelves.{Whole, cell-done}
 use Rattle.draw.proofs.Cells.{size-read}
-use Rattle.draw.proofs.Collecting.{is-drawn, not-refused}
+use Rattle.draw.proofs.Collecting.{is-done, not-refused}
 use Rattle.draw.proofs.drawing.read_cell.Statement.{statement}
 use Rattle.draw.proofs.drawing.read_cell.Tie as tie
 use Rattle.draw.proofs.drawing.read_cell.Reads as reads
 use Rattle.draw.proofs.drawing.read_cell.Lts as lts
-use Rattle.draw.proofs.answer.DrawAnswer.is_drawn.Reads as is-drawn-reads
+use Rattle.draw.proofs.answer.DrawAnswer.is_done.Reads as is-done-reads
 use Rattle.draw.proofs.cell.cell_answer.Reads as cell-answer-reads
 use Rattle.draw.proofs.cell.pair.Reads as pair-reads
 use Rattle.draw.proofs.sample.enter.Reads as enter-reads
@@ -23,14 +23,14 @@ use Rattle.octets.proofs.number.read16.Reads as read16-reads
 cell-answer-requires : tie.Need-cell-answer-requires
 cell-answer-requires c κs = search needs
 
-is-drawn-requires : tie.Need-is-drawn-requires
-is-drawn-requires c κs = search needs
+is-done-requires : tie.Need-is-done-requires
+is-done-requires c κs = search needs
 
 returns : tie.Need-returns
 returns c =
     let d = c .before in
     let w = d .before in
-    let none = sym (d .is-drawn .ensures) ∙ not-true _ (c .if1 .taken) in
+    let none = sym (d .is-done .ensures) ∙ not-true _ (c .if1 .taken) in
     record {
       answered = w .cell-answer .ensures;
       measured = not-refused (w .cell-answer .result) none;
@@ -44,8 +44,8 @@ whole e =
     let d = e .before in
     let w = d .before in
     let a = w .before .before .before .before .before .args in
-    cell-drawn (a .place) (a .recorded .now) (a .rest .now)
-    (sym (w .cell-answer .ensures) ∙ is-drawn (w .cell-answer .result) (sym (d .is-drawn .ensures) ∙ not-false _ (e .if1 .left)))
+    cell-done (a .place) (a .recorded .now) (a .rest .now)
+    (sym (w .cell-answer .ensures) ∙ is-done (w .cell-answer .result) (sym (d .is-done .ensures) ∙ not-false _ (e .if1 .left)))
 
 pair-requires : tie.Need-pair-requires
 pair-requires c κs =
@@ -84,7 +84,7 @@ returns-2 c =
       answered = w .cell-answer .ensures;
       measured = λ _. (ap (λ (k : ℕ). 10 + k) size, rw size (there .3));
       most = λ _. (n .enter .ensures .0, n .enter .ensures .1 .0);
-      kept = λ _. n .enter .ensures .1 .1 ∙ ap (λ (x : List ℕ). take 16 (entered x (pieces (a .held) (a .best .now)))) (p .pair .ensures);
+      kept = λ _. n .enter .ensures .1 .1 ∙ ap (λ (x : List ℕ). take 16 (entered x (pieces 64 (a .held) (a .best .now)))) (p .pair .ensures);
     }
 
 pub read-cell-spec : {M : Type 1} → statement M
@@ -92,7 +92,7 @@ read-cell-spec =
     tie.close
     (tie.spec
     cell-answer-requires
-    is-drawn-requires
+    is-done-requires
     returns
     pair-requires
     slice-aggregate-enter

@@ -4,9 +4,10 @@ use Prim.Native.Nat.{_+_, _*_}
 use native.Mathlib.Omega.{arith}
 use borrow.Author.Needs.{needs}
 use lib.ListN.{length}
+use Rattle.octets.specs.Pieces.{pieces}
 use Rattle.octets.proofs.Edits.{length-inserted}
 use Rattle.draw.specs.declared.sample.Found.{Found}
-use Rattle.draw.specs.Pieces.{pieces, Belongs}
+use Rattle.draw.specs.Inside.{Belongs}
 use Rattle.draw.proofs.Placing.{enter-held, enter-past, enter-placed}
 use Rattle.draw.proofs.sample.enter.Statement.{statement}
 use Rattle.draw.proofs.sample.enter.Tie as tie
@@ -33,7 +34,7 @@ returns c =
     let w = c .before .before in
     let a = w .before .before .before .before .args in
     let pre = w .before .before .before .before .pre in
-    let belongs = subst (λ (r : Found). Belongs r (a .pair .now) (pieces (a .held) (a .best .now))) (c .enum-told .given .1) (w .place-of .ensures) in
+    let belongs = subst (λ (r : Found). Belongs r (a .pair .now) (pieces 64 (a .held) (a .best .now))) (c .enum-told .given .1) (w .place-of .ensures) in
     (pre .0, (pre .1 .0, enter-held (a .best .now) (a .pair .now) (a .held) (pre .1 .0) (belongs .1)))
 
 same-length-2 : tie.Need-same-length-2
@@ -46,7 +47,7 @@ returns-2 c =
     let a = w .before .before .before .before .args in
     let pre = w .before .before .before .before .pre in
     let place = known .place .given .0 .0 in
-    let belongs = subst (λ (r : Found). Belongs r (a .pair .now) (pieces (a .held) (a .best .now))) (known .place .given .1) (w .place-of .ensures) in
+    let belongs = subst (λ (r : Found). Belongs r (a .pair .now) (pieces 64 (a .held) (a .best .now))) (known .place .given .1) (w .place-of .ensures) in
     (pre .0, (pre .1 .0, enter-past (a .best .now) (a .pair .now) (a .held) place (pre .1 .0) (omega arith) (belongs .0) (belongs .1)))
 
 lesser-requires : tie.Need-lesser-requires
@@ -77,11 +78,11 @@ returns-3 c =
     let pre = w .before .before .before .before .pre in
     let place = known .place .given .0 .0 in
     let last = least .lesser .result in
-    let belongs = subst (λ (r : Found). Belongs r (a .pair .now) (pieces (a .held) (a .best .now))) (known .place .given .1) (w .place-of .ensures) in (
+    let belongs = subst (λ (r : Found). Belongs r (a .pair .now) (pieces 64 (a .held) (a .best .now))) (known .place .given .1) (w .place-of .ensures) in (
       ap length (done .insert .ensures) ∙ length-inserted (a .best .now) (64 * place) (64 * last) (a .pair .now) ∙ pre .0,
       (
         omega arith,
-        ap (pieces (last + 1)) (done .insert .ensures)
+        ap (pieces 64 (last + 1)) (done .insert .ensures)
             ∙ enter-placed (a .best .now) (a .pair .now) (a .held) place last (pre .0) (pre .1 .1) (pre .1 .0) (omega arith) (belongs .0) (least .lesser .ensures) (belongs .1),
       ),
     )

@@ -8,8 +8,8 @@ use lib.ListN.{take, drop}
 use Rattle.octets.specs.declared.order.Order.{Order}
 use Rattle.octets.specs.declared.order.Order.the-variants.{Less, Same, More}
 use Rattle.octets.specs.Order.{byteOrder}
-use Rattle.draw.specs.Pieces.{pieces}
-use Rattle.draw.proofs.Pieces.{pieces-length}
+use Rattle.octets.specs.Pieces.{pieces}
+use Rattle.octets.proofs.Pieces.{length-pieces}
 use Rattle.draw.proofs.Placing.{Smaller, found-end, found-less, found-same, found-more}
 use Rattle.draw.proofs.sample.place_of.Statement.{statement}
 use Rattle.draw.proofs.sample.place_of.Tie as tie
@@ -24,7 +24,7 @@ told p s i o v e f =
     ap (λ (n : ℕ). byteOrder p (take n (drop (64 * i) s))) (sym width) ∙ sym e ∙ f
 
 abbrev Inv-loop : tie.InvT-loop
-Inv-loop best held pair i₀ i = (i ≤ held) × Smaller i pair (pieces held best)
+Inv-loop best held pair i₀ i = (i ≤ held) × Smaller i pair (pieces 64 held best)
 
 abbrev μ-loop : tie.MeasureT-loop
 μ-loop best held pair i₀ i = held - i
@@ -59,7 +59,7 @@ returns c =
     let l = w .before .before .before .loop in
     let a = w .before .before .before .before .before .before .args in
     let stands = told (a .pair .now) (a .best .now) (l .i) (w .compare .result) Less (w .compare .ensures) (c .enum-told .given .1) in
-    (omega (arith, pieces-length (a .held) (a .best .now)), found-less (a .pair .now) (a .held) (a .best .now) (l .i) (l .inv .1) (omega arith) stands)
+    (omega (arith, length-pieces 64 (a .held) (a .best .now)), found-less (a .pair .now) (a .held) (a .best .now) (l .i) (l .inv .1) (omega arith) stands)
 
 enum-told-2 : tie.Need-enum-told-2 Inv-loop μ-loop
 enum-told-2 c = search needs
@@ -70,7 +70,7 @@ returns-2 c =
     let l = w .before .before .before .loop in
     let a = w .before .before .before .before .before .before .args in
     let stands = told (a .pair .now) (a .best .now) (l .i) (w .compare .result) Same (w .compare .ensures) (c .enum-told2 .given .1) in
-    (omega (arith, pieces-length (a .held) (a .best .now)), found-same (a .pair .now) (a .held) (a .best .now) (l .i) (l .inv .1) (omega arith) stands)
+    (omega (arith, length-pieces 64 (a .held) (a .best .now)), found-same (a .pair .now) (a .held) (a .best .now) (l .i) (l .inv .1) (omega arith) stands)
 
 enum-told-3 : tie.Need-enum-told-3 Inv-loop μ-loop
 enum-told-3 c = search needs
@@ -95,7 +95,7 @@ returns-3 c =
     let a = c .before .before .before .before .args in
     let at-end : l .i ≡ a .held = omega arith in
     let belongs = found-end (a .pair .now) (a .held) (a .best .now) (l .i) (l .inv .1) (omega arith) in
-    (omega (arith, pieces-length (a .held) (a .best .now)), rw at-end at belongs)
+    (omega (arith, length-pieces 64 (a .held) (a .best .now)), rw at-end at belongs)
 
 pub place-of-spec : {M : Type 1} → statement M
 place-of-spec =

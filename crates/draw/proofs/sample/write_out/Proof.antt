@@ -7,10 +7,10 @@ use borrow.Author.Needs.{needs}
 use lib.ListN.{length, take, drop}
 use lib.Seq.{take-all}
 use Rattle.octets.specs.Moving.{placed}
+use Rattle.octets.specs.Pieces.{pieces}
 use Rattle.octets.proofs.Edits.{length-placed}
+use Rattle.octets.proofs.Pieces.{pieces-none}
 use Rattle.draw.specs.Sample.{written}
-use Rattle.draw.specs.Pieces.{pieces}
-use Rattle.draw.proofs.Pieces.{pieces-none}
 use Rattle.draw.proofs.Writing.{written-more, written-nil}
 use Rattle.draw.proofs.sample.write_out.Statement.{statement}
 use Rattle.draw.proofs.sample.write_out.Tie as tie
@@ -29,13 +29,13 @@ twice sample best i once after e f =
     f ∙ rw (e, first, second)
 
 abbrev Inv-loop : tie.InvT-loop
-Inv-loop sample₀ best i₀ sample i = (i ≤ 16) × ((length sample ≡ 1024) × (take (64 * i) sample ≡ written (pieces i best)))
+Inv-loop sample₀ best i₀ sample i = (i ≤ 16) × ((length sample ≡ 1024) × (take (64 * i) sample ≡ written (pieces 64 i best)))
 
 abbrev μ-loop : tie.MeasureT-loop
 μ-loop sample₀ best i₀ sample i = 16 - i
 
 loop-holds : tie.Need-loop-holds Inv-loop μ-loop
-loop-holds c = (omega arith, (search needs, sym (ap written (pieces-none (c .before .before .args .best .now)) ∙ written-nil)))
+loop-holds c = (omega arith, (search needs, sym (ap written (pieces-none 64 (c .before .before .args .best .now)) ∙ written-nil)))
 
 mul-at : tie.Need-mul-at Inv-loop μ-loop
 mul-at c = search needs
@@ -102,7 +102,7 @@ returns c =
     let a = c .before .before .before .before .args in
     let at-end : l .i ≡ 16 = omega arith in
     let whole = l .inv .1 .1 in
-    sym (take-all (64 * l .i) (l .sample) (omega arith)) ∙ whole ∙ ap (λ (n : ℕ). written (pieces n (a .best .now))) at-end
+    sym (take-all (64 * l .i) (l .sample) (omega arith)) ∙ whole ∙ ap (λ (n : ℕ). written (pieces 64 n (a .best .now))) at-end
 
 pub write-out-spec : {M : Type 1} → statement M
 write-out-spec =
