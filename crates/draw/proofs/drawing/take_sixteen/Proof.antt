@@ -21,7 +21,7 @@ collect-requires c κs =
     let n = c .before .before .before .before .before .before in
     let a = n .args in
     let w = lent-done (a .book .now) (a .anchor .now) (a .sample .now) (is-done _ (n .pre .0)) in
-    (formed-long (a .book .now) (w .formed), (w .anchor32, n .pre .1))
+    (formed-long (a .book .now) (w .formed), (w .anchor32, omega (arith, w .sample1024, n .pre .1)))
 
 is-done-requires : tie.Need-is-done-requires
 is-done-requires c κs = search needs
@@ -73,7 +73,7 @@ write-out-requires c κs =
     let n = k .before .before .before .before .before .before .before in
     let a = n .args in
     let w = lent-done (a .book .now) (a .anchor .now) (a .sample .now) (is-done _ (n .pre .0)) in
-    (w .sample1024, search needs)
+    (omega (arith, w .sample1024, n .pre .1), omega (arith, w .sample1024, n .pre .1))
 
 slice-aggregate-address : tie.Need-slice-aggregate-address
 slice-aggregate-address c = search needs
