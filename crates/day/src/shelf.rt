@@ -3,6 +3,7 @@ use crate::verdict::equal;
 use octets::moving::put;
 use octets::number::read16;
 use reserve::header::count;
+use reserve::record::record_at;
 ghost use Prim.Native.Nat.{_≤_};
 ghost use lib.ListN.{length};
 
@@ -35,15 +36,11 @@ fn with_chunk(book: &[u8], i: usize, chunks: &[u8], shelf: &mut [u8], end: usize
 
 // The address in record i, or nothing where the book does not reach it.
 fn address_of<'a>(book: &'a [u8], i: usize) -> &'a [u8] {
-    if i >= book.len() / 145 {
-        return &book[0..0];
+    let record = record_at(book, i);
+    if record.len() < 80 {
+        return &record[0..0];
     }
-    let start = 96 + 145 * i;
-    let end = start + 32;
-    if book.len() < end {
-        return &book[0..0];
-    }
-    &book[start..end]
+    &record[48..80]
 }
 
 // The cell of the chunk with an address, or nothing where there is no such chunk.

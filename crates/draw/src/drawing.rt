@@ -11,10 +11,12 @@ use reserve::check::check_book;
 use reserve::header::count;
 use reserve::header::overfull;
 use reserve::record::record_at;
+ghost use mathlib.Core.Bool.{true};
 ghost use mathlib.Core.Path.{_≡_};
 ghost use Prim.Native.Nat.{_+_, _*_, _≤_};
 ghost use lib.ListN.{length};
 ghost use Rattle.reserve.specs.Layout.{countIn};
+ghost use Rattle.draw.specs.Answer.{isDone};
 ghost use Rattle.draw.specs.Draw.{lentAnswer, drawn, sampleAfter};
 ghost use Rattle.draw.specs.Inside.{Collects, ReadsCell};
 
@@ -41,7 +43,22 @@ pub fn draw(book: &[u8], shelf: &[u8], anchor: &[u8], sample: &mut [u8]) -> Draw
         return lent.refused();
     }
     let mut best = [0u8; 1024];
-    let collected = collect(book, shelf, anchor, &mut best);
+    take_sixteen(book, shelf, anchor, &mut best, sample)
+}
+
+// The sixteen smallest pairs, gathered in `best` and written over `sample`, and their commitment.
+fn take_sixteen(
+    book: &[u8],
+    shelf: &[u8],
+    anchor: &[u8],
+    best: &mut [u8],
+    sample: &mut [u8],
+) -> DrawResult
+    requires { ⌜ (isDone (lentAnswer (now book) (now anchor) (now sample)) ≡ true) × (length (now best) ≡ 1024) ⌝ }
+    ensures result { λ r. ⌜ r ≡ drawn (now (book .entry)) (now (shelf .entry)) (now (anchor .entry)) (now (sample .entry)) ⌝ }
+    ensures bytes { λ _. ⌜ now (sample .exit) ≡ sampleAfter (now (book .entry)) (now (shelf .entry)) (now (anchor .entry)) (now (sample .entry)) ⌝ }
+{
+    let collected = collect(book, shelf, anchor, best);
     let answer = collected.answer;
     if !answer.is_done() {
         return answer.refused();
@@ -49,7 +66,7 @@ pub fn draw(book: &[u8], shelf: &[u8], anchor: &[u8], sample: &mut [u8]) -> Draw
     if collected.held < 16 {
         return DrawAnswer::TooFew.refused();
     }
-    write_out(sample, &best);
+    write_out(sample, best);
     let committed = chunk::address(b"\x00\x04\x00\x00\x00\x00\x00\x00", sample);
     let commitment = committed.digest;
     DrawResult {
