@@ -10,11 +10,18 @@ use std::io::{ErrorKind, Write};
 use std::path::Path;
 use std::process::{Child, Command, Stdio};
 
-/// The built program, on that standard input.
+/// The built program, on that standard input; run by EMULATOR where that is set, since it is for x86-64.
 fn started(input: Stdio) -> Child {
     let program = Path::new(env!("CARGO_MANIFEST_DIR")).join("../../target/bin/list");
     assert!(program.is_file(), "target/bin/list is missing: run `rt check list` first");
-    let mut command = Command::new(program);
+    let mut command = match std::env::var_os("EMULATOR") {
+        Some(emulator) => {
+            let mut command = Command::new(emulator);
+            command.arg(program);
+            command
+        }
+        None => Command::new(program),
+    };
     command.stdin(input).stdout(Stdio::piped()).stderr(Stdio::piped());
     command.spawn().expect("the program starts")
 }
