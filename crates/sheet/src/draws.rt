@@ -8,6 +8,7 @@ use chunk::address;
 use draw::draw;
 use octets::moving::put;
 use octets::number::read64;
+use reserve::record::record_at;
 
 // The span of a chunk of one byte.
 const SPAN: [u8; 8] = [1, 0, 0, 0, 0, 0, 0, 0];
@@ -60,9 +61,9 @@ fn drawn(book: &[u8], shelf: &[u8]) -> u64 {
 
 // The chunks in record order, one for each record that a full book has.
 fn lay(book: &[u8], shelf: &mut [u8]) {
-    for record in 0..16 {
-        let byte = (read64(book, 88 + 145 * record) % 256) as u8;
-        put(shelf, CELL * record, &cell(byte));
+    for i in 0..16 {
+        let byte = (read64(record_at(book, i), 40) % 256) as u8;
+        put(shelf, CELL * i, &cell(byte));
     }
 }
 

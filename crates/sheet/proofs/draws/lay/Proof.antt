@@ -7,19 +7,16 @@ use Rattle.sheet.proofs.draws.lay.Statement.{statement}
 use Rattle.sheet.proofs.draws.lay.Tie as tie
 
 abbrev Inv-loop : tie.InvT-loop
-Inv-loop book shelf₀ record₀ shelf «record» = length shelf ≡ length shelf₀
+Inv-loop book shelf₀ i₀ shelf i = length shelf ≡ length shelf₀
 
 abbrev μ-loop : tie.MeasureT-loop
-μ-loop book shelf₀ record₀ shelf «record» = 16 - «record»
+μ-loop book shelf₀ i₀ shelf i = 16 - i
 
 loop-holds : tie.Need-loop-holds Inv-loop μ-loop
 loop-holds c = refl
 
-mul-read64 : tie.Need-mul-read64 Inv-loop μ-loop
-mul-read64 c = search needs
-
-add-read64 : tie.Need-add-read64 Inv-loop μ-loop
-add-read64 c = search needs
+record-at-requires : tie.Need-record-at-requires Inv-loop μ-loop
+record-at-requires c κs = search needs
 
 read64-requires : tie.Need-read64-requires Inv-loop μ-loop
 read64-requires c κs = search needs
@@ -39,8 +36,8 @@ slice-aggregate-put c = search needs
 put-requires : tie.Need-put-requires Inv-loop μ-loop
 put-requires c κs = search needs
 
-add-record : tie.Need-add-record Inv-loop μ-loop
-add-record c = search needs
+add-i : tie.Need-add-i Inv-loop μ-loop
+add-i c = search needs
 
 loop-less : tie.Need-loop-less Inv-loop μ-loop
 loop-less c = search needs
@@ -61,15 +58,14 @@ lay-spec =
     Inv-loop
     μ-loop
     loop-holds
-    mul-read64
-    add-read64
+    record-at-requires
     read64-requires
     cast-byte
     mul-put
     cell-requires
     slice-aggregate-put
     put-requires
-    add-record
+    add-i
     loop-less
     loop-again
     same-length
