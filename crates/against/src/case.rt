@@ -1,5 +1,6 @@
 // The fields of a case, each a length of four bytes and so many bytes.
 use octets::number::read32;
+use octets::order::lesser;
 ghost use Prim.Native.Nat.{_≤_, _-_};
 ghost use lib.ListN.{length};
 
@@ -22,7 +23,7 @@ pub(crate) fn fields(bytes: &[u8]) -> usize {
 pub(crate) fn field(bytes: &[u8], place: usize) -> &[u8] {
     let at = start(bytes, place);
     let size = whole(bytes, at);
-    let begin = at + least(4, size);
+    let begin = at + lesser(4, size);
     let end = at + size;
     &bytes[begin..end]
 }
@@ -54,12 +55,6 @@ fn whole(bytes: &[u8], at: usize) -> usize
         return 0;
     }
     4 + size
-}
-
-fn least(a: usize, b: usize) -> usize
-    ensures { λ r. ⌜ (r ≤ a) × (r ≤ b) ⌝ }
-{
-    if a < b { a } else { b }
 }
 
 // Where a lent buffer of so many bytes ends behind the first `at`, 0 where there is no room for it.

@@ -1,5 +1,5 @@
 // Segments of 32 bytes, as stretches of the caller's own data, of any length.
-use crate::tree::least;
+use octets::order::lesser;
 ghost use mathlib.Core.Path.{_≡_};
 ghost use lib.ListN.{length};
 ghost use denote.Ref.{ptr};
@@ -28,6 +28,6 @@ pub fn segment(data: &[u8], index: u64) -> &[u8]
     ensures { λ r. ⌜ ptr r ≡ onward (segmentStart (length (now («data» .entry))) index) (ptr («data» .entry)) ⌝ }
 {
     let start = segment_start(data, index);
-    let end = least(data.len(), start + 32);
+    let end = lesser(data.len(), start + 32);
     &data[start..end]
 }

@@ -1,9 +1,10 @@
 // The tree over a chunk's data. Every hash takes the prefix before its message: none for a plain tree, the anchor for an anchored one.
 use keccak::Sponge;
 use octets::moving::put;
+use octets::order::lesser;
 ghost use mathlib.Core.Path.{_≡_};
 ghost use mathlib.Core.List.{[], _++_};
-ghost use Prim.Native.Nat.{_+_, _*_, _≤_, min};
+ghost use Prim.Native.Nat.{_+_, _*_, _≤_};
 ghost use lib.ListN.{length};
 ghost use Rattle.chunk.specs.Tree.{padTo, width, hash, root};
 ghost use Rattle.chunk.specs.Proof.{node};
@@ -31,7 +32,7 @@ pub(crate) fn root(prefix: &[u8], part: &[u8], level: usize) -> [u8; 32]
         return padded(part);
     }
     let below = level - 1;
-    let cut = least(part.len(), width(below));
+    let cut = lesser(part.len(), width(below));
     let left = root(prefix, &part[0..cut], below);
     let right = root(prefix, &part[cut..], below);
     hash(prefix, &left, &right)
@@ -97,8 +98,8 @@ pub(crate) fn node(prefix: &[u8], data: &[u8], level: usize, n: usize) -> [u8; 3
     ensures { λ r. ⌜ r ≡ node (now (prefix .entry)) level n (padTo 4096 (now («data» .entry))) ⌝ }
 {
     let w = width(level);
-    let start = least(data.len(), n * w);
-    let end = least(data.len(), start + w);
+    let start = lesser(data.len(), n * w);
+    let end = lesser(data.len(), start + w);
     root(prefix, &data[start..end], level)
 }
 
@@ -132,11 +133,4 @@ fn width(level: usize) -> usize
     ensures { λ r. ⌜ r ≡ width level ⌝ }
 {
     32 << level
-}
-
-// The lesser of two lengths.
-pub(crate) fn least(a: usize, b: usize) -> usize
-    ensures { λ r. ⌜ r ≡ min a b ⌝ }
-{
-    if a <= b { a } else { b }
 }

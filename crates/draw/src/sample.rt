@@ -3,8 +3,9 @@ use octets::moving::insert;
 use octets::moving::put;
 use octets::order::Order;
 use octets::order::compare;
+use octets::order::lesser;
 ghost use mathlib.Core.Path.{_≡_};
-ghost use Prim.Native.Nat.{_*_, _≤_, min};
+ghost use Prim.Native.Nat.{_*_, _≤_};
 ghost use lib.ListN.{length, take};
 ghost use Rattle.octets.specs.Pieces.{pieces};
 ghost use Rattle.draw.specs.Sample.{entered, written};
@@ -48,13 +49,6 @@ fn place_of(best: &[u8], held: usize, pair: &[u8]) -> Found
         }
     }
     Found::At(held)
-}
-
-// The lesser of two numbers.
-fn lesser(a: usize, b: usize) -> usize
-    ensures { λ r. ⌜ r ≡ min a b ⌝ }
-{
-    if a < b { a } else { b }
 }
 
 // The sixteen pairs of `best`, over `sample`, each as address, anchored address.

@@ -55,12 +55,7 @@ thirdLine =
     replicate 8 0x31
     ++ (0x20 ∷ 0x33 ∷ 0x32 ∷ 0x37 ∷ 0x36 ∷ 0x38 ∷ 0x20 ∷ 0x30 ∷ 0x20 ∷ 0x31 ∷ 0x30 ∷ 0x30 ∷ 0x20 ∷ 0x38 ∷ 0x30 ∷ 0x30 ∷ 0x30 ∷ 0x30 ∷ 0x30 ∷ 0x30 ∷ 0x30 ∷ 0x20 ∷ 0x30 ∷ 0x0a ∷ [])
 
--- its header line
-pub example-header : headerLine example ≡ firstLine
-unfolding headerLine line stateWord decimal digits digit write laid bytesOf big
-example-header = refl
-
--- and all that is printed for it
+-- all that is printed for it
 pub example-printed : printed example ≡ firstLine ++ secondLine ++ thirdLine
 unfolding printed listing headerLine recordLine recordLines line stateWord decimal digits digit hex write laid pieces bytesOf big byteOrder sharedBits bitsOf bits leadingEqual wellFormed labelled sized levelled stands allStand rises zeros
 example-printed = refl

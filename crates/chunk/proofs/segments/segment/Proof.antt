@@ -11,11 +11,11 @@ use Rattle.chunk.proofs.segments.segment.Tie as tie
 segment-start-requires : tie.Need-segment-start-requires
 segment-start-requires c κs = search needs
 
-add-least : tie.Need-add-least
-add-least c = search needs
+add-lesser : tie.Need-add-lesser
+add-lesser c = search needs
 
-least-requires : tie.Need-least-requires
-least-requires c κs = search needs
+lesser-requires : tie.Need-lesser-requires
+lesser-requires c κs = search needs
 
 sub-result : tie.Need-sub-result
 sub-result c = search needs
@@ -31,7 +31,7 @@ returns c =
     let l = c .before in
     let s = l .before in
     let g = s .before .before .args in (
-      stretch-is (32 * g .index) 32 (now (g .«data»)) (s .segment-start .result) (l .least .result) (s .segment-start .ensures) (l .least .ensures),
+      stretch-is (32 * g .index) 32 (now (g .«data»)) (s .segment-start .result) (l .lesser .result) (s .segment-start .ensures) (l .lesser .ensures),
       ap (λ (n : ℕ). onward n (ptr (g .«data»))) (s .segment-start .ensures),
     )
 
@@ -40,8 +40,8 @@ segment-spec =
     tie.close
     (tie.spec
     segment-start-requires
-    add-least
-    least-requires
+    add-lesser
+    lesser-requires
     sub-result
     part-result-start
     part-result-end

@@ -14,7 +14,7 @@ use Rattle.chunk.proofs.tree.root.Reads as root
 use Rattle.chunk.proofs.tree.root.Kinds as root-kinds
 use Rattle.chunk.proofs.tree.+root.Lts-root as root-lts
 use Rattle.chunk.proofs.tree.hash.Reads as hash-reads
-use Rattle.chunk.proofs.tree.least.Reads as least-reads
+use Rattle.octets.proofs.order.lesser.Reads as lesser-reads
 use Rattle.chunk.proofs.tree.padded.Reads as padded-reads
 use Rattle.chunk.proofs.tree.width.Reads as width-reads
 use Rattle.chunk.proofs.tree.zero_root.Reads as zero-root-reads
@@ -39,8 +39,8 @@ module _ (t : ℕ) where
     padded-reads.Learnt,
     width-reads.Asked,
     width-reads.Learnt,
-    least-reads.Asked,
-    least-reads.Learnt,
+    lesser-reads.Asked,
+    lesser-reads.Learnt,
     below,
     root.Post,
     hash-reads.Asked,
@@ -71,8 +71,8 @@ module _ (t : ℕ) where
   width-requires : root-lts.Need-width-requires claims entered root.Post
   width-requires c κs = search needs
 
-  least-requires : root-lts.Need-least-requires claims entered root.Post
-  least-requires c κs = search needs
+  lesser-requires : root-lts.Need-lesser-requires claims entered root.Post
+  lesser-requires c κs = search needs
 
   sub-root : root-lts.Need-sub-root claims entered root.Post
   sub-root c = search needs
@@ -118,7 +118,7 @@ module _ (t : ℕ) where
       let x = k .before .before .before .before .args in
       c .hash .ensures
       ∙ ap₂ (λ (a b : List ℕ). hash (now (x .prefix)) (a ++ b)) (r .before .before .root .ensures) (r .root2 .ensures)
-      ∙ root-level (now (x .prefix)) (x .level) (now (x .part)) (m .least .result) (k .if2 .left) (m .least .ensures ∙ ap (min (length (now (x .part)))) (m .before .width .ensures))
+      ∙ root-level (now (x .prefix)) (x .level) (now (x .part)) (m .lesser .result) (k .if2 .left) (m .lesser .ensures ∙ ap (min (length (now (x .part)))) (m .before .width .ensures))
 
 pub +root-spec : {M : Type 1} → statement M
 +root-spec =
@@ -130,7 +130,7 @@ pub +root-spec : {M : Type 1} → statement M
     (returns-2 t)
     (sub-below t)
     (width-requires t)
-    (least-requires t)
+    (lesser-requires t)
     (sub-root t)
     (part-root-start t)
     (part-root-end t)

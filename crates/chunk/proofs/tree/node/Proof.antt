@@ -14,20 +14,20 @@ use Rattle.chunk.proofs.tree.node.Tie as tie
 width-requires : tie.Need-width-requires
 width-requires c κs = search needs
 
-mul-least : tie.Need-mul-least
-mul-least c =
+mul-lesser : tie.Need-mul-lesser
+mul-lesser c =
     let x = c .before .before .before in
     let e : x .args .n * c .width .result ≡ x .args .n * width (x .args .level) = ap (λ (w : ℕ). x .args .n * w) (c .width .ensures) in
     record { fits = omega arith }
 
-least-requires : tie.Need-least-requires
-least-requires c κs = search needs
+lesser-requires : tie.Need-lesser-requires
+lesser-requires c κs = search needs
 
-add-least : tie.Need-add-least
-add-least c = search needs
+add-lesser : tie.Need-add-lesser
+add-lesser c = search needs
 
-least-requires-2 : tie.Need-least-requires-2
-least-requires-2 c κs = search needs
+lesser-requires-2 : tie.Need-lesser-requires-2
+lesser-requires-2 c κs = search needs
 
 sub-root : tie.Need-sub-root
 sub-root c = search needs
@@ -49,8 +49,8 @@ returns c =
     let p = now (x .prefix) in
     let d = now (x .«data») in
     let at = x .n * width (x .level) in
-    let start : e .before .least .result ≡ min (length d) at = e .before .least .ensures ∙ ap (λ (k : ℕ). min (length d) (x .n * k)) (w .width .ensures) in
-    let end : e .least2 .result ≡ min (length d) (e .before .least .result + width (x .level)) = e .least2 .ensures ∙ ap (λ (k : ℕ). min (length d) (e .before .least .result + k)) (w .width .ensures) in
+    let start : e .before .lesser .result ≡ min (length d) at = e .before .lesser .ensures ∙ ap (λ (k : ℕ). min (length d) (x .n * k)) (w .width .ensures) in
+    let end : e .lesser2 .result ≡ min (length d) (e .before .lesser .result + width (x .level)) = e .lesser2 .ensures ∙ ap (λ (k : ℕ). min (length d) (e .before .lesser .result + k)) (w .width .ensures) in
     c .root .ensures
     ∙ ap (λ (s : List ℕ). root p (x .level) (padTo (width (x .level)) s)) (stretch-is at (width (x .level)) d _ _ start end)
     ∙ ap (root p (x .level)) (sym (pad-stretch 4096 at (width (x .level)) d (w .before .before .before .pre .1)))
@@ -60,10 +60,10 @@ node-spec =
     tie.close
     (tie.spec
     width-requires
-    mul-least
-    least-requires
-    add-least
-    least-requires-2
+    mul-lesser
+    lesser-requires
+    add-lesser
+    lesser-requires-2
     sub-root
     part-root-start
     part-root-end

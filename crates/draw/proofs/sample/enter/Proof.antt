@@ -13,7 +13,7 @@ use Rattle.draw.proofs.sample.enter.Statement.{statement}
 use Rattle.draw.proofs.sample.enter.Tie as tie
 use Rattle.draw.proofs.sample.enter.Reads as reads
 use Rattle.draw.proofs.sample.enter.Lts as lts
-use Rattle.draw.proofs.sample.lesser.Reads as lesser-reads
+use Rattle.octets.proofs.order.lesser.Reads as lesser-reads
 use Rattle.draw.proofs.sample.place_of.Reads as place-of-reads
 use Rattle.octets.proofs.moving.insert.Reads as insert-reads
 
