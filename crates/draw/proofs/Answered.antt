@@ -5,7 +5,7 @@ use mathlib.Core.List.{List, [], map}
 use Prim.Native.Nat.{ℕ, _≤_}
 use native.Mathlib.Omega.{arith}
 use lib.Dec.{eqb, ltb}
-use lib.ListN.{length, take, length-take, length-map, replicate}
+use lib.ListN.{length, length-take, length-map, replicate}
 use borrow.Author.Tests.{ltb-false, eqb-true}
 use Rattle.reserve.specs.Record.{addressIn}
 use Rattle.reserve.specs.Layout.{stateIn, countIn, recordsIn}

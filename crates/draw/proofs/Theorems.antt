@@ -8,8 +8,8 @@ use Rattle.keccak.specs.Collision.{Collision}
 use Rattle.chunk.proofs.Collide.{Among, among-left, among-right, _>>=_}
 use Rattle.draw.specs.declared.answer.DrawAnswer.the-variants.{Done}
 use Rattle.draw.specs.Shelf.{Cell, ownAddress, pairOf, cellsHashed, cellsOn, shelfAnswer}
-use Rattle.draw.specs.Sample.{gathered, sixteen, written, commitmentOf, commitmentHashed}
-use Rattle.draw.specs.Draw.{addressesIn, cellsDrawn, pairsDrawn, sixteenDrawn, drawn, drawHashed}
+use Rattle.draw.specs.Sample.{sixteen, written, commitmentOf, commitmentHashed}
+use Rattle.draw.specs.Draw.{addressesIn, cellsDrawn, pairsDrawn, sixteenDrawn, drawHashed}
 use Rattle.draw.specs.Theorems.{DrawAnswers, EachHashesToItsRecord, TheSixteenSmallest, SixteenOnce, EachDifferentPairOnce, OrderDoesNotMatter, OneAnchorOneHash, OneHashOneSample}
 use Rattle.draw.proofs.Shelves.{shelf-done, shelves-same}
 use Rattle.draw.proofs.Gathering.{all-from, all-ascending, gathered-has, sixteen-same, sixteen-smallest}

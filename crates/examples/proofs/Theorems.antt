@@ -5,14 +5,19 @@ use Prim.Native.Nat.{ℕ, suc}
 use native.Mathlib.Omega.{arith}
 use borrow.Author.Tests.{eq-eqb}
 use lib.ListN.{length, length-take, length-drop}
+use Rattle.octets.specs.Order.{byteOrder}
+use Rattle.octets.specs.Number.{big, bigAt, bytesOf}
+use Rattle.octets.specs.Pieces.{pieces}
 use Rattle.keccak.proofs.Theorems.{padding-sheet}
 use Rattle.nearness.specs.declared.near.Near.the-variants.{Bits}
 use Rattle.nearness.specs.Bits.{bits, bitsOf, leadingEqual, sharedBits}
 use Rattle.nearness.specs.Near.{nearnessOf}
 use Rattle.nearness.proofs.Shared.{length-bitsOf}
-use Rattle.postage.specs.Sheet as stamp-sheet
+use Rattle.postage.specs.Batch.{records, fit, below, ordered, wellListed, find}
+use Rattle.postage.specs.Stamp.{bucketOf, slotsOf}
+use Rattle.postage.specs.Rules.{stampNumber, inBucket, inSlots, isOwner, rules, checked}
 use Rattle.chunk.specs.Segment.{segmentOf}
-use Rattle.examples.specs.Settled.{from, Settled}
+use Rattle.examples.specs.Settled.{from, address, owner, batches, stamp, Settled}
 
 -- ---- shared bits
 
@@ -40,6 +45,15 @@ near-self x e = rw (e, shared-self x e) refl
 last-segment : (bytes : List ℕ) → length bytes ≡ 1337 → length (segmentOf bytes 41) ≡ 25
 last-segment bytes e = simp (length-take, length-drop, e) refl
 
+-- ---- a stamp's bucket and index
+
+stamps :
+    (bucketOf address ≡ 4660)
+    × (stampNumber (checked batches address (stamp 1) owner) ≡ 0)
+    × (stampNumber (checked batches address (stamp 2) owner) ≡ 18)
+unfolding bigAt big bytesOf byteOrder pieces records fit below ordered wellListed find slotsOf inBucket inSlots isOwner rules checked
+stamps = (refl, refl, refl)
+
 pub settled-examples : Settled
 settled-examples =
     record {
@@ -54,7 +68,7 @@ settled-examples =
       shared-80-00 = first-bytes .0;
       shared-12-00 = first-bytes .1;
       shared-equal = near-self;
-      bucket-12-34 = stamp-sheet.sheet .0;
-      index-1-allowed = stamp-sheet.sheet .1;
-      index-2-past = stamp-sheet.sheet .2;
+      bucket-12-34 = stamps .0;
+      index-1-allowed = stamps .1;
+      index-2-past = stamps .2;
     }

@@ -1,6 +1,6 @@
 -- The hash of no bytes, computed from the textbook's definition; the Keccak team's first known answer.
 use mathlib.Core.Path.{_≡_, refl, _∙_}
-use mathlib.Core.List.{List, [], _∷_}
+use mathlib.Core.List.{[], _∷_}
 use Rattle.octets.specs.Number.{little}
 use Rattle.permutation.specs.Permutation.{once, rounds, permute}
 use Rattle.keccak.specs.Sponge.{digestOf}

@@ -1,5 +1,6 @@
 -- The byte order is a strict total order, and on strings of one length the order of their numbers.
 use mathlib.Core.Path.{_≡_, refl, sym, ap, _∙_}
+use mathlib.Core.Bool.{true, false≢true}
 use mathlib.Core.Logic.{_⊎_, inl, inr}
 use mathlib.Core.List.{List, [], _∷_, _++_}
 use Prim.Native.Nat.{ℕ, suc, _+_, _*_, _^_, _≤_, _<_}
@@ -11,7 +12,7 @@ use borrow.Author.Tests.{le-ltb, lt-ltb}
 use Rattle.octets.specs.declared.order.Order.{Order}
 use Rattle.octets.specs.declared.order.Order.the-variants.{Less, Same, More}
 use Rattle.octets.specs.Bytes.{Bytes}
-use Rattle.octets.specs.Order.{numberOrder, andThen, turned, byteOrder}
+use Rattle.octets.specs.Order.{numberOrder, andThen, turned, byteOrder, isLess, isSame}
 use Rattle.octets.specs.Number.{big}
 use Rattle.octets.proofs.Numbers.{big-lt, big-cons}
 
@@ -25,6 +26,18 @@ less-not-more e = let z : _≡_ {A = ℕ} 0 1 = cc in omega arith
 
 pub more-not-same : More ≡ Same → ⊥
 more-not-same e = let z : _≡_ {A = ℕ} 0 1 = cc in omega arith
+
+-- and a test for one of them tells it
+
+pub is-less : (o : Order) → isLess o ≡ true → o ≡ Less
+is-less Less e = refl
+is-less Same e = absurd (false≢true e)
+is-less More e = absurd (false≢true e)
+
+pub is-same : (o : Order) → isSame o ≡ true → o ≡ Same
+is-same Less e = absurd (false≢true e)
+is-same Same e = refl
+is-same More e = absurd (false≢true e)
 
 -- numbers
 

@@ -4,7 +4,7 @@ use mathlib.Core.List.{List, [], _∷_, _++_, append-assoc, append-nil}
 use Prim.Native.Nat.{ℕ, zero, suc, _+_, _-_, _*_, _≤_, _<_}
 use native.Mathlib.Nat.{add-zero, zero-add, suc-add, mul-zero}
 use native.Mathlib.Omega.{arith}
-use lib.ListN.{length, getD, take, drop, take-append-drop, length-take, length-drop}
+use lib.ListN.{length, getD, take, drop, take-append-drop, length-drop}
 use lib.Seq.{drop-length, take-all, take-append-le, drop-append-le, drop-drop, length-take-le, take-add}
 use Rattle.octets.specs.Moving.{inserted}
 use Rattle.octets.specs.Pieces.{pieces}

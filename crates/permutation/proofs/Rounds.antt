@@ -1,13 +1,12 @@
 -- A round by its rows, and a round a turn of the loop.
 use mathlib.Core.Path.{_≡_, refl, ap, ap₂, _∙_, sym}
 use mathlib.Core.List.{List, [], _∷_}
-use Prim.Native.Nat.{ℕ, zero, suc, _+_, _*_, _<_}
+use Prim.Native.Nat.{ℕ, _+_}
 use native.Mathlib.Omega.{arith}
 use native.Mathlib.Numerals.{add-one}
 use lib.Bits.{bitXor}
-use lib.ListN.{getD, set, length}
-use Rattle.permutation.specs.Lanes.{lane}
-use Rattle.permutation.specs.Steps.{D, theta, rho, pi, chi, iota, RC}
+use lib.ListN.{getD, length}
+use Rattle.permutation.specs.Steps.{D, rho, pi, chi, iota, RC}
 use Rattle.permutation.specs.Permutation.{once, rounds, permute}
 use Rattle.permutation.specs.Rows.{row, mixed}
 

@@ -1,6 +1,6 @@
 -- A row of tests gives the answers in their order.
 use mathlib.Core.Path.{_≡_, refl, sym, subst, ap, _∙_}
-use mathlib.Core.Bool.{Bool, true, false, _&&_}
+use mathlib.Core.Bool.{Bool, true, false, _&&_, false≢true}
 use mathlib.Core.Logic.{_⊎_, inl, inr, _↔_}
 use mathlib.Core.List.{List, []}
 use Prim.Native.Nat.{ℕ}
@@ -9,7 +9,7 @@ use lib.Dec.{eqb, ltb}
 use lib.ListN.{length}
 use borrow.Author.Tests.{lt-ltb, ltb-true, eq-eqb, eqb-true}
 use Rattle.octets.specs.Order.{byteOrder, isSame}
-use Rattle.octets.proofs.Ordered.{order-self, same-equal}
+use Rattle.octets.proofs.Ordered.{is-same, order-self, same-equal}
 use Rattle.postage.specs.declared.rules.StampAnswer.{StampAnswer}
 use Rattle.postage.specs.declared.rules.StampAnswer.the-variants.{Passes, BadList, WrongLength, NoBatch, OtherBucket, IndexPast, NotOwner}
 use Rattle.postage.specs.Batch.{Listed, batchAt, records, wellListed, find, ownerOf, depthOf}
@@ -17,7 +17,7 @@ use Rattle.postage.specs.Stamp.{stampLength, batchIn, bucketIn, indexIn,
 use Rattle.postage.specs.Rules.{rule, inBucket, inSlots, isOwner, rules, checked}
 use Rattle.postage.specs.InOrder.{Lengths, Kept, Given}
 use Rattle.postage.proofs.Records.{length-batchAt}
-use Rattle.postage.proofs.Listed.{false-not-true, both, is-same, well-listed-sound, well-listed-complete}
+use Rattle.postage.proofs.Listed.{both, well-listed-sound, well-listed-complete}
 use Rattle.postage.proofs.Search.{find-cases}
 
 -- ---- any tests of what the rules ask
@@ -35,7 +35,7 @@ record Tests (kept : StampAnswer → Type 0) (list lengths listed bucket index o
   pub owner-test : (owner ≡ true) ↔ kept NotOwner
 
 fails : {A : Type 0} → (false ≡ true) ↔ A → A → ⊥
-fails t k = false-not-true (t .1 k)
+fails t k = false≢true (t .1 k)
 
 failed : {A : Type 0} (b : Bool) → (b ≡ true) ↔ A → (A → ⊥) → b ≡ false
 failed true t n = absurd (n (t .0 refl))
@@ -83,7 +83,7 @@ listed-tested list id = go (find-cases list id)
   where
     go : ((Listed list id → ⊥) × (find id (records list) ≡ [])) ⊎ ((at : Listed list id) × (find id (records list) ≡ batchAt list (at .0)))
         → (ltb 0 (length (find id (records list))) ≡ true) ↔ Listed list id
-    go (inl r) = ((λ e. absurd (false-not-true (rw (r .1) at e))), λ h. absurd (r .0 h))
+    go (inl r) = ((λ e. absurd (false≢true (rw (r .1) at e))), λ h. absurd (r .0 h))
     go (inr r) = let at = r .0 in ((λ e. at), λ h. lt-ltb 0 (length (find id (records list))) (omega (arith, ap length (r .1), length-batchAt list (at .0) (at .1))))
 
 owner-tested : (batch account : List ℕ) → (isOwner batch account ≡ true) ↔ (account ≡ ownerOf batch)

@@ -1,6 +1,6 @@
 -- The test of a list agrees with the sentence.
 use mathlib.Core.Path.{_≡_, refl, sym, ap, _∙_}
-use mathlib.Core.Bool.{Bool, true, false, _&&_}
+use mathlib.Core.Bool.{Bool, true, false, _&&_, false≢true}
 use mathlib.Core.List.{List, [], _∷_}
 use Prim.Native.Nat.{ℕ, zero, suc, _+_, _%_, _≤_, _<_}
 use native.Mathlib.Omega.{arith}
@@ -8,31 +8,17 @@ use lib.Dec.{eqb, leb}
 use lib.ListN.{length, getD, take, drop, length-drop}
 use lib.Seq.{drop-drop, length-take-le, take-length}
 use borrow.Author.Tests.{le-leb, leb-true, eq-eqb, eqb-true}
-use Rattle.octets.specs.declared.order.Order.{Order}
-use Rattle.octets.specs.declared.order.Order.the-variants.{Less, Same, More}
-use Rattle.octets.specs.Order.{byteOrder, isLess, isSame}
-use Rattle.octets.proofs.Ordered.{less-trans}
+use Rattle.octets.specs.declared.order.Order.the-variants.{Less}
+use Rattle.octets.specs.Order.{byteOrder, isLess}
+use Rattle.octets.proofs.Ordered.{is-less, less-trans}
 use Rattle.postage.specs.Batch.{recordLength, recordFrom, idOf, depthOf, Fit, WellListed, records, fit, below, ordered, wellListed}
 use Rattle.postage.proofs.Records.{records-short, records-more, length-records, records-at, record-front}
 
 -- tests
 
-pub false-not-true : false ≡ true → ⊥
-false-not-true e = let z : _≡_ {A = ℕ} 0 1 = cc in omega arith
-
 pub both : (p q : Bool) → (p && q) ≡ true → (p ≡ true) × (q ≡ true)
 both true q e = (refl, e)
-both false q e = absurd (false-not-true e)
-
-pub is-less : (o : Order) → isLess o ≡ true → o ≡ Less
-is-less Less e = refl
-is-less Same e = absurd (false-not-true e)
-is-less More e = absurd (false-not-true e)
-
-pub is-same : (o : Order) → isSame o ≡ true → o ≡ Same
-is-same Less e = absurd (false-not-true e)
-is-same Same e = refl
-is-same More e = absurd (false-not-true e)
+both false q e = absurd (false≢true e)
 
 -- a batch
 

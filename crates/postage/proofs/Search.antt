@@ -1,6 +1,6 @@
 -- Looking a batch up: what there is to find, and how halving comes to it.
 use mathlib.Core.Path.{_≡_, refl, sym, ap, _∙_}
-use mathlib.Core.Bool.{Bool, true, false, cond}
+use mathlib.Core.Bool.{Bool, true, false, cond, false≢true}
 use mathlib.Core.Logic.{_⊎_, inl, inr}
 use mathlib.Core.List.{List, [], _∷_}
 use Prim.Native.Nat.{ℕ, zero, suc, _+_, _≤_, _<_}
@@ -9,10 +9,9 @@ use native.Mathlib.Omega.{arith}
 use lib.ListN.{length, getD}
 use Rattle.octets.specs.declared.order.Order.the-variants.{Less, More}
 use Rattle.octets.specs.Order.{byteOrder, turned, isSame}
-use Rattle.octets.proofs.Ordered.{compared, less-not-same, less-trans, order-self, same-equal, order-turned}
+use Rattle.octets.proofs.Ordered.{is-same, compared, less-not-same, less-trans, order-self, same-equal, order-turned}
 use Rattle.postage.specs.Batch.{idOf, count, batchAt, Whole, WellListed, Listed, records, find}
 use Rattle.postage.proofs.Records.{length-records, records-at, length-batchAt}
-use Rattle.postage.proofs.Listed.{false-not-true, is-same}
 
 -- ---- nothing, or a batch with the id
 
@@ -33,7 +32,7 @@ cases id (batch ∷ rest) = go (isSame (byteOrder (idOf batch) id)) refl (cases 
     go false q (inl r) = inl (none, r .1)
       where
         none : (i : ℕ) → Has (batch ∷ rest) id i → ⊥
-        none zero h = false-not-true (sym q ∙ ap isSame (ap (λ (l : List ℕ). byteOrder l id) (h .1) ∙ order-self id))
+        none zero h = false≢true (sym q ∙ ap isSame (ap (λ (l : List ℕ). byteOrder l id) (h .1) ∙ order-self id))
         none (suc i) h = r .0 i (omega (arith, h .0), h .1)
 
 module _ (list id : List ℕ) where

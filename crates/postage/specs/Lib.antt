@@ -6,4 +6,3 @@ pub mod Rules
 pub mod InOrder
 pub mod Determined
 pub mod Refused
-pub mod Sheet

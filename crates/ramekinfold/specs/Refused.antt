@@ -19,7 +19,7 @@ use Rattle.reserve.specs.Determined.{open-refused}
 use Rattle.reserve.specs.Book.{read}
 use Rattle.reserve.specs.Record.{recordOf}
 use Rattle.reserve.specs.Stamps.{stampAnswer}
-use Rattle.reserve.specs.Offer.{shapeOf, offered}
+use Rattle.reserve.specs.Offer.{shapeOf}
 use Rattle.reserve.specs.Histories.{Offer, ByteOffer, answer, after}
 use Rattle.reserve.specs.Theorems.{Table, not-well-formed, already-overfull, stamp-refused, settles}
 use Rattle.reserve.proofs.Theorems.{answers, refused-changes-nothing}

@@ -19,9 +19,9 @@ use Rattle.reserve.specs.Offer.{Ended, shapeOf, entered}
 use Rattle.reserve.specs.Histories.{Offer, ByteOffer, after, answer}
 use Rattle.reserve.specs.Theorems.{Table, not-well-formed, already-overfull, stamp-refused, settles, VeryRecordHeld}
 use Rattle.reserve.proofs.Soundness.{lawful-sound}
-use Rattle.reserve.proofs.Roundtrip.{read-lawful, write-read, read-write}
+use Rattle.reserve.proofs.Roundtrip.{read-good, read-lawful, write-read, read-write}
 use Rattle.reserve.proofs.Stamped.{stamp-fits}
-use Rattle.reserve.proofs.Ways.{read-good, Way, ill, burst, unstamped, enters, way, way-ill, way-overfull, way-stamp, way-enters}
+use Rattle.reserve.proofs.Ways.{Way, ill, burst, unstamped, enters, way, way-ill, way-overfull, way-stamp, way-enters}
 use Rattle.reserve.proofs.Heard.{lawful-offer}
 
 abbrev numberAfter : Ended → ℕ

@@ -1,25 +1,30 @@
 -- An offer outside the depth: what the theory says of its slot is said of its address.
-use mathlib.Core.Path.{_≡_, refl, sym, ap, _∙_, subst}
+use mathlib.Core.Path.{_≡_, refl, sym, ap, _∙_}
 use mathlib.Core.Logic.{_⊎_, inl, inr}
 use mathlib.Core.List.{List}
 use Prim.Native.Nat.{ℕ, _≤_, _<_, min}
 use native.Mathlib.Omega.{arith}
-use lib.ListN.{length}
 use Rattle.octets.specs.Bytes.{Bytes}
 use Rattle.nearness.specs.Bits.{sharedBits}
 use Rattle.settling.specs.Book.{State, good}
 use Rattle.settling.specs.Meaning.{Outside, Given, kept, dropped, bursts, already, outside, very, outranked}
-use Rattle.reserve.specs.Record.{slot, addressIn, nearOf, recordOf}
-use Rattle.reserve.specs.Layout.{stateIn, depthIn, overlayIn, recordsIn, WellFormed}
-use Rattle.reserve.specs.Book.{Book, read}
+use Rattle.reserve.specs.Record.{slot, nearOf, recordOf}
+use Rattle.reserve.specs.Layout.{depthIn, overlayIn}
+use Rattle.reserve.specs.Book.{read}
 use Rattle.reserve.specs.Stamps.{stampAnswer}
 use Rattle.reserve.specs.Offer.{shapeOf}
 use Rattle.reserve.specs.Histories.{Offer, ByteOffer, answer}
-use Rattle.reserve.specs.Theorems.{Table, not-well-formed, already-overfull, stamp-refused, settles, BelowDepth}
+use Rattle.reserve.specs.Theorems.{Table, not-well-formed, already-overfull, stamp-refused, settles, NearnessOfSlots, BelowDepth}
 use Rattle.reserve.proofs.Slots.{near-slot}
 use Rattle.reserve.proofs.Stamped.{stamp-fits, stamp-address, stamp-range}
-use Rattle.reserve.proofs.Ways.{read-good}
+use Rattle.reserve.proofs.Roundtrip.{read-good}
 use Rattle.reserve.proofs.Answered.{answers-table}
+
+-- up to 16 the slot's nearness is the address's
+pub near-offer : NearnessOfSlots
+near-offer overlay batches o ob s =
+    near-slot overlay (recordOf (o .address) (o .stamp)) (stamp-fits batches (o .address) (o .stamp) (o .account) (ob .address) (ob .stamp) s)
+    ∙ ap (λ (a : List ℕ). min 16 (sharedBits a overlay)) (stamp-address batches (o .address) (o .stamp) (o .account) s)
 
 module _ (batches book : List ℕ) (o : Offer) (byte : Bytes book) (ob : ByteOffer o) where
   abbrev r : List ℕ
@@ -28,11 +33,8 @@ module _ (batches book : List ℕ) (o : Offer) (byte : Bytes book) (ob : ByteOff
   abbrev verdict : ℕ
   verdict = stampAnswer batches (o .address) (o .stamp) (o .account)
 
-  -- up to 16 the slot's nearness is the address's
   near-address : verdict ≡ 0 → nearOf (overlayIn book) (slot r) ≡ min 16 (sharedBits (o .address) (overlayIn book))
-  near-address s =
-      near-slot (overlayIn book) r (stamp-fits batches (o .address) (o .stamp) (o .account) (ob .address) (ob .stamp) s)
-      ∙ ap (λ (a : List ℕ). min 16 (sharedBits a (overlayIn book))) (stamp-address batches (o .address) (o .stamp) (o .account) s)
+  near-address s = near-offer (overlayIn book) batches o ob s
 
   given-20 : (st : State (List ℕ)) (n : ℕ) → Given (shapeOf (read book)) st r n → n ≡ 20 → Outside (shapeOf (read book)) st r
   given-20 st n (kept p q) e = absurd (omega arith)

@@ -20,8 +20,7 @@ use Rattle.reserve.specs.Theorems.{Roomy, AddedTo}
 use Rattle.reserve.proofs.Cuts.{counted}
 use Rattle.reserve.proofs.Slots.{near-inside}
 use Rattle.reserve.proofs.Soundness.{lawful-sound}
-use Rattle.reserve.proofs.Roundtrip.{read-lawful, write-well-formed, read-write}
-use Rattle.reserve.proofs.Ways.{read-good}
+use Rattle.reserve.proofs.Roundtrip.{read-good, read-lawful, write-well-formed, read-write}
 use Rattle.reserve.proofs.Stamped.{stamp-fits, stamp-address}
 use Rattle.reserve.proofs.Heard.{lawful-offer, flag-there}
 use Rattle.reserve.proofs.Answered.{enters-number, enters-bytes}

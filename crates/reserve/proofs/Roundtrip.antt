@@ -36,13 +36,13 @@ record Stated (s : List ℕ) : Type 0 where
   depth : depthOf (read s .state) ≡ depthIn s
   held : heldBy (read s .state) ≡ recordsIn s
 
-good-read : (s : List ℕ) → stateIn s ≡ 0 → read s .state ≡ good (depthIn s) (recordsIn s)
+pub read-good : (s : List ℕ) → stateIn s ≡ 0 → read s .state ≡ good (depthIn s) (recordsIn s)
 unfolding read
-good-read s e = rw (ne-eqb (stateIn s) 1 (λ h. omega arith))
+read-good s e = rw (ne-eqb (stateIn s) 1 (λ h. omega arith))
 
-overfull-read : (s : List ℕ) → stateIn s ≡ 1 → read s .state ≡ overfull
+read-overfull : (s : List ℕ) → stateIn s ≡ 1 → read s .state ≡ overfull
 unfolding read
-overfull-read s e = rw (eq-eqb (stateIn s) 1 e)
+read-overfull s e = rw (eq-eqb (stateIn s) 1 e)
 
 stated : (s : List ℕ) → WellFormed s → Stated s
 stated s w = go (decLe (stateIn s) 0)
@@ -50,11 +50,11 @@ stated s w = go (decLe (stateIn s) 0)
     go : Dec (stateIn s ≤ 0) → Stated s
     go (yes h) =
         let e : stateIn s ≡ 0 = omega arith in
-        let r = good-read s e in
+        let r = read-good s e in
         record { flag = ap flagOf r ∙ sym e; depth = ap depthOf r; held = ap heldBy r }
     go (no h) =
         let e : stateIn s ≡ 1 = omega (arith, w .state) in
-        let r = overfull-read s e in
+        let r = read-overfull s e in
         let b = w .burst e in
         record { flag = ap flagOf r ∙ sym e; depth = ap depthOf r ∙ sym (b .0); held = ap heldBy r ∙ sym (ap (λ (n : ℕ). pieces 145 n (drop 48 s)) (b .1) ∙ pieces-none 145 (drop 48 s)) }
 

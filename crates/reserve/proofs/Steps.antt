@@ -20,8 +20,7 @@ use Rattle.reserve.specs.Offer.{shapeOf, entered}
 use Rattle.reserve.specs.Awaits.{Awaits, Ends}
 use Rattle.reserve.proofs.Cuts.{counted}
 use Rattle.reserve.proofs.Soundness.{lawful-sound}
-use Rattle.reserve.proofs.Roundtrip.{read-lawful, write-read}
-use Rattle.reserve.proofs.Ways.{read-good}
+use Rattle.reserve.proofs.Roundtrip.{read-good, read-lawful, write-read}
 
 module _ (s r : List ℕ) (w : Awaits s r) where
   pub kept : Kept (shapeIn s) (depthIn s) (recordsIn s)

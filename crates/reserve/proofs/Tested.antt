@@ -1,6 +1,6 @@
 -- The test says what Layout's list says.
 use mathlib.Core.Path.{_≡_, refl, ap, _∙_}
-use mathlib.Core.Bool.{true, false, _&&_, _||_, false≢true}
+use mathlib.Core.Bool.{true, _&&_, _||_}
 use mathlib.Core.Logic.{_↔_}
 use mathlib.Core.List.{List, [], _∷_}
 use Prim.Native.Nat.{ℕ, zero, suc, _+_, _-_, _*_, _≤_}
@@ -9,12 +9,10 @@ use native.Mathlib.Omega.{arith}
 use lib.Dec.{eqb}
 use lib.ListN.{length, drop, replicate, length-drop}
 use borrow.Author.Tests.{leb-true, le-leb, ltb-true, lt-ltb, eqb-true, eq-eqb, ne-eqb}
-use Rattle.octets.specs.declared.order.Order.{Order}
-use Rattle.octets.specs.declared.order.Order.the-variants.{Less, Same, More}
 use Rattle.octets.specs.Order.{byteOrder, isSame}
 use Rattle.octets.specs.Bytes.{Bytes}
 use Rattle.octets.proofs.Bytes.{bytes-drop}
-use Rattle.octets.proofs.Ordered.{same-equal, order-self}
+use Rattle.octets.proofs.Ordered.{is-same, same-equal, order-self}
 use Rattle.nearness.specs.Bits.{sharedBits}
 use Rattle.settling.specs.Meaning.{Each}
 use Rattle.reserve.specs.Record.{addressIn, Fitting}
@@ -25,11 +23,6 @@ use Rattle.reserve.proofs.Laid.{Sized}
 use Rattle.reserve.proofs.Cuts.{each-sized, each-bytes}
 
 -- mark and version
-
-is-same : (o : Order) → isSame o ≡ true → o ≡ Same
-is-same Less e = absurd (false≢true e)
-is-same Same e = refl
-is-same More e = absurd (false≢true e)
 
 labelled-true : (s : List ℕ) → labelled s ≡ true → (markIn s ≡ mark) × (versionIn s ≡ 1)
 unfolding labelled

@@ -15,12 +15,12 @@ use Rattle.reserve.specs.Book.{Book, inState, heldBy, read, write}
 use Rattle.reserve.specs.Open.{freshBook}
 use Rattle.reserve.specs.Offer.{Ended}
 use Rattle.reserve.specs.Histories.{Offer, ByteOffer, Openable, after, heard, passing, opened, settledBytes}
-use Rattle.reserve.specs.Theorems.{Histories, HistoriesByMembers, SameMembersSameBytes, CountIsRecords, AlwaysWellFormed, Answers, RefusedChangesNothing, VeryRecord, OutsideTheDepth, OverfullForEver, RoomIsUsed}
+use Rattle.reserve.specs.Theorems.{Histories, HistoriesByMembers, SameMembersSameBytes, CountIsRecords, AlwaysWellFormed, Answers, RefusedChangesNothing, VeryRecord, NearnessOfSlots, OutsideTheDepth, OverfullForEver, RoomIsUsed}
 use Rattle.reserve.proofs.Roundtrip.{write-well-formed, read-write}
 use Rattle.reserve.proofs.Ways.{way-overfull}
 use Rattle.reserve.proofs.Heard.{lawful-fresh, heard-hear, lawful-hear}
 use Rattle.reserve.proofs.Answered as answered
-use Rattle.reserve.proofs.Outside.{outside-below, below-outside}
+use Rattle.reserve.proofs.Outside.{near-offer, outside-below, below-outside}
 use Rattle.reserve.proofs.Cuts
 use Rattle.reserve.proofs.Room.{records-there, room-used}
 use Rattle.reserve.proofs.Heard.{flag-there}
@@ -86,6 +86,9 @@ refused-changes-nothing batches book o byte ob = (answered.refused-same batches 
 
 pub very-record : VeryRecord
 very-record batches book o byte ob = (answered.very-held batches book o byte ob, answered.held-very batches book o byte ob)
+
+pub nearness-of-slots : NearnessOfSlots
+nearness-of-slots = near-offer
 
 pub outside-the-depth : OutsideTheDepth
 outside-the-depth batches book o byte ob = (outside-below batches book o byte ob, below-outside batches book o byte ob)

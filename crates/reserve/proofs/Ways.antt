@@ -8,9 +8,8 @@ use native.Mathlib.Omega.{arith}
 use lib.Dec.{eqb}
 use borrow.Author.Tests.{eq-eqb, ne-eqb}
 use Rattle.octets.specs.Bytes.{Bytes}
-use Rattle.settling.specs.Book.{good}
 use Rattle.reserve.specs.Record.{recordOf}
-use Rattle.reserve.specs.Layout.{stateIn, depthIn, recordsIn, WellFormed}
+use Rattle.reserve.specs.Layout.{stateIn, WellFormed}
 use Rattle.reserve.specs.Book.{read}
 use Rattle.reserve.specs.declared.check.BookAnswer.{BookAnswer}
 use Rattle.reserve.specs.declared.check.BookAnswer.the-variants.{WellFormed as Formed, NotWellFormed}
@@ -19,11 +18,6 @@ use Rattle.reserve.specs.Stamps.{stampAnswer}
 use Rattle.reserve.specs.Offer.{refused, entered, offered}
 use Rattle.reserve.proofs.Tested.{said as untested, heard as tested}
 use Rattle.reserve.proofs.Stamped.{stamp-range}
-
--- what a well-formed book's state byte tells
-pub read-good : (s : List ℕ) → stateIn s ≡ 0 → read s .state ≡ good (depthIn s) (recordsIn s)
-unfolding read
-read-good s e = rw (ne-eqb (stateIn s) 1 (λ f. omega arith))
 
 -- the check's verdict, as the truth that it tells
 abbrev pub isFormed : BookAnswer → Bool

@@ -7,7 +7,7 @@ use Prim.Native.Nat.{ℕ}
 use Rattle.octets.specs.declared.order.Order.{Order}
 use Rattle.octets.specs.declared.order.Order.the-variants.{Less, Same, More}
 use Rattle.octets.specs.Order.{byteOrder, andThen, turned, isLess}
-use Rattle.octets.proofs.Ordered.{order-self, order-turned, same-equal, less-trans, then-less, then-same, then-turned}
+use Rattle.octets.proofs.Ordered.{is-less, order-self, order-turned, same-equal, less-trans, then-less, then-same, then-turned}
 use Rattle.settling.specs.Rank.{Rank}
 use Rattle.reserve.specs.Record.{slot, timeIn, addressIn, signatureIn}
 use Rattle.reserve.specs.Rank.{rankOrder, beats}
@@ -73,11 +73,6 @@ ranks =
 pub rank-turned : (a b : List ℕ) → rankOrder b a ≡ turned (rankOrder a b)
 rank-turned a b = ranks .turn a b
 
-less-true : (o : Order) → isLess o ≡ true → o ≡ Less
-less-true Less e = refl
-less-true Same e = absurd (false≢true e)
-less-true More e = absurd (false≢true e)
-
 neither-less : (o : Order) → isLess o ≡ false → isLess (turned o) ≡ false → o ≡ Same
 neither-less Less e f = absurd (false≢true (sym e))
 neither-less Same e f = refl
@@ -99,6 +94,6 @@ unfolding beats
 ranked =
     record {
       irrefl = λ a. ap isLess (ranks .self a);
-      trans = λ a b c u v p q. ap isLess (ranks .trans a b c (less-true _ p) (less-true _ q));
+      trans = λ a b c u v p q. ap isLess (ranks .trans a b c (is-less _ p) (is-less _ q));
       total = λ a b u p q. rank-same a b (neither-less (rankOrder a b) p (rw (← ranks .turn a b) q));
     }

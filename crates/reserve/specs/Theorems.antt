@@ -3,13 +3,13 @@ use mathlib.Core.Path.{_≡_}
 use mathlib.Core.Logic.{_↔_}
 use mathlib.Core.Option.{some}
 use mathlib.Core.List.{List, List·Memᴰ}
-use Prim.Native.Nat.{ℕ, suc, _≤_, _<_}
+use Prim.Native.Nat.{ℕ, suc, _≤_, _<_, min}
 use lib.ListN.{length}
 use Rattle.octets.specs.Bytes.{Bytes}
 use Rattle.nearness.specs.Bits.{sharedBits}
 use Rattle.settling.specs.History.{valid, settled}
 use Rattle.settling.specs.Meaning.{Each, Given, Settles}
-use Rattle.reserve.specs.Record.{slot, recordOf}
+use Rattle.reserve.specs.Record.{slot, recordOf, nearOf}
 use Rattle.reserve.specs.Shape.{shape}
 use Rattle.reserve.specs.Layout.{stateIn, depthIn, overlayIn, capacityIn, countIn, recordsIn, WellFormed}
 use Rattle.reserve.specs.Book.{heldBy, read}
@@ -83,8 +83,14 @@ pub record VeryRecordHeld (batches book : List ℕ) (o : Offer) : Type 0 where
 abbrev pub VeryRecord : Type 0
 VeryRecord = (batches book : List ℕ) (o : Offer) → Bytes book → ByteOffer o → (answer batches book o ≡ 21) ↔ VeryRecordHeld batches book o
 
--- 20 exactly when the address shares fewer bits with the overlay than the depth of a good book, and the stamp passes. The theory knows
--- a slot's nearness only; this says that it is the address's.
+-- The theory knows a record by its slot. How near a slot is, is how many bits the address shares with the overlay, up to 16, for every
+-- record whose stamp passes: so 'inside' and 'outside', here and in the sentences above, speak of the address.
+abbrev pub NearnessOfSlots : Type 0
+NearnessOfSlots =
+    (overlay batches : List ℕ) (o : Offer) → ByteOffer o → stampAnswer batches (o .address) (o .stamp) (o .account) ≡ 0
+    → nearOf overlay (slot (recordOf (o .address) (o .stamp))) ≡ min 16 (sharedBits (o .address) overlay)
+
+-- 20 exactly when the address shares fewer bits with the overlay than the depth of a good book, and the stamp passes.
 pub record BelowDepth (batches book : List ℕ) (o : Offer) : Type 0 where
   pub formed : WellFormed book
   pub good : stateIn book ≡ 0

@@ -1,5 +1,4 @@
 -- `against::verdict::judged` meets its contract: it says equal after the comparison alone.
-use mathlib.Core.Path.{_≡_}
 use borrow.Author.Needs.{needs}
 use Rattle.against.proofs.Apart.{differs-apart}
 use Rattle.against.proofs.verdict.judged.Statement.{statement}

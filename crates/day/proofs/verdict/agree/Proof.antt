@@ -1,15 +1,10 @@
 -- `day::verdict::agree` meets its contract.
-use mathlib.Core.Bool.{true, false}
-use mathlib.Core.Path.{_≡_, sym, _∙_}
-use Prim.Native.Nat.{ℕ}
-use native.Mathlib.Omega.{arith}
+use mathlib.Core.Bool.{false≢true}
+use mathlib.Core.Path.{sym, _∙_}
 use borrow.Author.Needs.{needs}
 use borrow.Author.Tests.{not-true, not-false}
 use Rattle.day.proofs.verdict.agree.Statement.{statement}
 use Rattle.day.proofs.verdict.agree.Tie as tie
-
-false-not-true : false ≡ true → ⊥
-false-not-true e = let z : _≡_ {A = ℕ} 0 1 = cc in omega arith
 
 one-hash-requires : tie.Need-one-hash-requires
 one-hash-requires c κs = search needs
@@ -17,7 +12,7 @@ one-hash-requires c κs = search needs
 returns : tie.Need-returns
 returns c =
     let told = c .before .one-hash .ensures in
-    (λ yes. absurd (false-not-true yes), λ all. absurd (false-not-true (sym (not-true _ (c .if1 .taken)) ∙ told .1 (all .0))))
+    (λ yes. absurd (false≢true yes), λ all. absurd (false≢true (sym (not-true _ (c .if1 .taken)) ∙ told .1 (all .0))))
 
 one-hash-requires-2 : tie.Need-one-hash-requires-2
 one-hash-requires-2 c κs = search needs
@@ -25,7 +20,7 @@ one-hash-requires-2 c κs = search needs
 returns-2 : tie.Need-returns-2
 returns-2 c =
     let told = c .before .one-hash2 .ensures in
-    (λ yes. absurd (false-not-true yes), λ all. absurd (false-not-true (sym (not-true _ (c .if2 .taken)) ∙ told .1 (all .1 .0))))
+    (λ yes. absurd (false≢true yes), λ all. absurd (false≢true (sym (not-true _ (c .if2 .taken)) ∙ told .1 (all .1 .0))))
 
 one-hash-requires-3 : tie.Need-one-hash-requires-3
 one-hash-requires-3 c κs = search needs

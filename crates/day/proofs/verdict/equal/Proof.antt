@@ -1,9 +1,8 @@
 -- `day::verdict::equal` meets its contract: the byte order calls two strings the same where they are equal, and only there.
-use mathlib.Core.Bool.{true, false}
+use mathlib.Core.Bool.{false≢true}
 use mathlib.Core.List.{List}
 use mathlib.Core.Path.{_≡_, refl, sym, ap, _∙_}
 use Prim.Native.Nat.{ℕ}
-use native.Mathlib.Omega.{arith}
 use borrow.Author.Needs.{needs}
 use Rattle.octets.specs.declared.order.Order.{Order}
 use Rattle.octets.specs.declared.order.Order.the-variants.{Less, Same, More}
@@ -13,9 +12,6 @@ use Rattle.day.specs.Agree.{Tells}
 use Rattle.day.proofs.verdict.equal.Statement.{statement}
 use Rattle.day.proofs.verdict.equal.Tie as tie
 
-false-not-true : false ≡ true → ⊥
-false-not-true e = let z : _≡_ {A = ℕ} 0 1 = cc in omega arith
-
 same-told : (a b : List ℕ) → Tells (isSame (byteOrder a b)) (a ≡ b)
 same-told a b = go (byteOrder a b) refl
   where
@@ -23,9 +19,9 @@ same-told a b = go (byteOrder a b) refl
     same e = ap (λ (x : List ℕ). byteOrder a x) (sym e) ∙ order-self a
 
     go : (o : Order) → byteOrder a b ≡ o → Tells (isSame (byteOrder a b)) (a ≡ b)
-    go Less e = (λ yes. absurd (false-not-true (sym (ap isSame e) ∙ yes)), λ one. absurd (less-not-same (sym e ∙ same one)))
+    go Less e = (λ yes. absurd (false≢true (sym (ap isSame e) ∙ yes)), λ one. absurd (less-not-same (sym e ∙ same one)))
     go Same e = (λ yes. same-equal a b e, λ one. ap isSame e)
-    go More e = (λ yes. absurd (false-not-true (sym (ap isSame e) ∙ yes)), λ one. absurd (more-not-same (sym e ∙ same one)))
+    go More e = (λ yes. absurd (false≢true (sym (ap isSame e) ∙ yes)), λ one. absurd (more-not-same (sym e ∙ same one)))
 
 compare-requires : tie.Need-compare-requires
 compare-requires c κs = search needs

@@ -1,20 +1,14 @@
 -- `day::verdict::one_hash` meets its contract.
-use mathlib.Core.Bool.{true, false}
-use mathlib.Core.Path.{_≡_}
-use Prim.Native.Nat.{ℕ}
-use native.Mathlib.Omega.{arith}
+use mathlib.Core.Bool.{false≢true}
 use borrow.Author.Needs.{needs}
 use Rattle.day.proofs.verdict.one_hash.Statement.{statement}
 use Rattle.day.proofs.verdict.one_hash.Tie as tie
 
-false-not-true : false ≡ true → ⊥
-false-not-true e = let z : _≡_ {A = ℕ} 0 1 = cc in omega arith
-
 returns : tie.Need-returns
-returns c = (λ yes. absurd (false-not-true yes), λ one. absurd (c .if1 .taken (one .0 .0)))
+returns c = (λ yes. absurd (false≢true yes), λ one. absurd (c .if1 .taken (one .0 .0)))
 
 returns-2 : tie.Need-returns-2
-returns-2 c = (λ yes. absurd (false-not-true yes), λ one. absurd (c .if2 .taken (one .0 .1)))
+returns-2 c = (λ yes. absurd (false≢true yes), λ one. absurd (c .if2 .taken (one .0 .1)))
 
 slice-aggregate-equal : tie.Need-slice-aggregate-equal
 slice-aggregate-equal c = search needs

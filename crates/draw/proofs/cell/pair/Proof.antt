@@ -2,7 +2,7 @@
 use Prim.Native.Nat.{ℕ}
 use native.Mathlib.Omega.{arith}
 use borrow.Author.Needs.{needs}
-use lib.ListN.{length, replicate, length-replicate}
+use lib.ListN.{replicate, length-replicate}
 use Rattle.draw.specs.Shelf.{cellIn}
 use Rattle.draw.proofs.Cells.{size-read, anchored-read, pair-put}
 use Rattle.draw.proofs.cell.pair.Statement.{statement}

@@ -1,6 +1,6 @@
 -- `ramekinfold::rkf_segment` meets its contract.
 use mathlib.Core.List.{List}
-use mathlib.Core.Path.{ap, ap₂}
+use mathlib.Core.Path.{ap₂}
 use Prim.Native.Nat.{ℕ}
 use lib.ListN.{length}
 use Rattle.ramekinfold.specs.Part.{part}

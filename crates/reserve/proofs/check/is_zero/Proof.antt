@@ -5,7 +5,7 @@ use mathlib.Core.Path.{_≡_, refl, sym, _∙_}
 use native.Mathlib.Omega.{arith}
 use borrow.Author.Needs.{needs}
 use lib.Dec.{eqb}
-use lib.ListN.{length, getD, drop}
+use lib.ListN.{length, drop}
 use Rattle.reserve.specs.Check.{zeros}
 use Rattle.reserve.proofs.Tests
 use Rattle.reserve.proofs.check.is_zero.Statement.{statement}

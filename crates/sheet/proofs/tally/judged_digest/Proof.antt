@@ -1,5 +1,4 @@
 -- `sheet::tally::judged_digest` meets its contract: it says equal after the comparison alone.
-use mathlib.Core.Path.{_≡_}
 use borrow.Author.Needs.{needs}
 use Rattle.sheet.proofs.Apart.{differs-apart}
 use Rattle.sheet.proofs.tally.judged_digest.Statement.{statement}

@@ -1,7 +1,7 @@
 -- `keccak::Sponge::words` meets its contract. The loop's invariant: the state is that after the first i bytes of the part.
 use mathlib.Core.Path.{_≡_, refl, ap, ap₂, _∙_}
 use mathlib.Core.Logic.{⊎-elim}
-use Prim.Native.Nat.{ℕ, _+_, _≤_, _-_, _<_, _%_}
+use Prim.Native.Nat.{_+_, _≤_, _-_, _<_, _%_}
 use native.Mathlib.Omega.{arith}
 use borrow.Author.Needs.{needs}
 use denote.Ref.{now}
