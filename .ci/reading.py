@@ -1,7 +1,9 @@
-"""How the audit reads: Rattle's files, antt's files, and what documents name. Nothing here judges."""
+"""How the gate's scripts read: Rattle's files, antt's files, and what documents name. Nothing here judges."""
+import os
 import pathlib
 import re
 
+PROMISES = 'docs/PROMISES.md'
 KIT = {'std', 'check', 'libc', 'io', 'os', 'bytes'}
 ENDINGS = ('.rt', '.antt', '.edit', '.md', '.rs', '.h', '.c', '.txt', '.toml')
 
@@ -174,3 +176,35 @@ def rows(text):
         functions = [w for w, _, _ in spans(cells[1]) if is_mention(w)] if row.startswith('|') and len(cells) > 2 else []
         if functions:
             yield functions, line
+
+
+# ---- all of it
+
+class Repository:
+    """The files as they stand, what was found in them, and what is wrong with them."""
+
+    def __init__(self, root):
+        self.root = pathlib.Path(root).resolve()
+        self.faults, self.notes, self.references, self.texts = [], [], 0, {}
+        self.crates = sorted(p.name for p in self.root.glob('crates/*') if p.is_dir())
+        sources = [(c, f) for c in self.crates for f in self.files('.rt') if f.startswith(f'crates/{c}/src/')]
+        self.items = [item for crate, file in sources for item in items(crate, file, self.text(file))]
+        self.functions = [i for i in self.items if i.kind == 'fn' and i.public]
+
+    def fault(self, file, line, what):
+        self.faults.append((file, line, what))
+
+    def text(self, file):
+        """What a file holds; a file that is not there holds nothing."""
+        if file not in self.texts:
+            path = self.root / file
+            self.texts[file] = path.read_text(encoding='utf-8', errors='replace') if path.is_file() else ''
+        return self.texts[file]
+
+    def files(self, *endings):
+        """The project's own files with one of these endings, as paths from the root."""
+        for folder, inner, names in os.walk(self.root):
+            inner[:] = sorted(d for d in inner if d not in ('.git', 'target'))
+            for name in sorted(names):
+                if name.endswith(endings):
+                    yield (pathlib.Path(folder) / name).relative_to(self.root).as_posix()
