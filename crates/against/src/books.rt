@@ -36,7 +36,7 @@ fn check_book(rest: &[u8], came: &mut [u8]) -> usize {
 }
 
 fn higher(rest: &[u8], came: &mut [u8]) -> usize {
-    let part = reserve::rank::higher(field(rest, 0), field(rest, 1));
+    let part = records::rank::higher(field(rest, 0), field(rest, 1));
     put(came, 0, part);
     lent_end(came.len(), 0, part.len())
 }

@@ -9,8 +9,8 @@ use Rattle.octets.specs.Bytes.{Bytes}
 use Rattle.keccak.specs.Collision.{Collision}
 use Rattle.chunk.specs.Tree.{addressOf}
 use Rattle.settling.specs.Meaning.{Each}
-use Rattle.reserve.specs.Record.{addressIn}
-use Rattle.reserve.specs.Layout.{recordsIn}
+use Rattle.records.specs.Record.{addressIn}
+use Rattle.book.specs.Layout.{recordsIn}
 use Rattle.reserve.specs.Open.{openAnswer, openBytes, openNumber}
 use Rattle.reserve.specs.Histories.{Offer, ByteOffer, heard}
 use Rattle.draw.specs.Answer.{drawNumber}

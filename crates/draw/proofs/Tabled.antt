@@ -10,7 +10,7 @@ use lib.Dec.{eqb, ltb}
 use lib.ListN.{length, getD, drop, drop-of-length-le}
 use borrow.Author.Tests.{lt-ltb, le-ltb, eq-eqb, ne-eqb}
 use Rattle.octets.specs.Bytes.{Bytes}
-use Rattle.reserve.specs.Layout.{stateIn, countIn, WellFormed}
+use Rattle.book.specs.Layout.{stateIn, countIn, WellFormed}
 use Rattle.reserve.specs.Check.{wellFormed}
 use Rattle.reserve.proofs.Tested.{said as untested, heard as tested}
 use Rattle.draw.specs.declared.answer.DrawAnswer.{DrawAnswer}

@@ -2,9 +2,9 @@
 use crate::field::put_field;
 use crate::line::put_header;
 use crate::line::put_records;
+use book::header::count;
 use reserve::check::BookAnswer;
 use reserve::check::check_book;
-use reserve::header::count;
 ghost use mathlib.Core.Path.{_≡_};
 ghost use mathlib.Core.Bool.{true};
 ghost use Prim.Native.Nat.{_≤_};

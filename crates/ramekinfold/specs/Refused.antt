@@ -16,8 +16,8 @@ use Rattle.reserve.specs.declared.open.OpenAnswer.{OpenAnswer}
 use Rattle.reserve.specs.declared.open.OpenAnswer.the-variants as Opening
 use Rattle.reserve.specs.Open.{openAnswer, openBytes, openNumber}
 use Rattle.reserve.specs.Determined.{open-refused}
-use Rattle.reserve.specs.Book.{read}
-use Rattle.reserve.specs.Record.{recordOf}
+use Rattle.book.specs.Book.{read}
+use Rattle.records.specs.Record.{recordOf}
 use Rattle.reserve.specs.Stamps.{stampAnswer}
 use Rattle.reserve.specs.Offer.{shapeOf}
 use Rattle.reserve.specs.Histories.{Offer, ByteOffer, answer, after}

@@ -1,10 +1,10 @@
 // Books: opened, checked, and offered to; and the higher of two records.
 use crate::chunks::Part;
-use reserve::rank::Choice;
+use records::rank::Choice;
 ghost use mathlib.Core.Path.{_≡_};
 ghost use Rattle.reserve.specs.Open.{openAnswer, openBytes, openNumber};
 ghost use Rattle.reserve.specs.Check.{checked, bookNumber};
-ghost use Rattle.reserve.specs.Choice.{choice};
+ghost use Rattle.records.specs.Choice.{choice};
 ghost use Rattle.reserve.specs.Offer.{offered};
 ghost use Rattle.ramekinfold.specs.Part.{ofChoice};
 
@@ -35,7 +35,7 @@ pub extern "C" fn rkf_check_book(book: &[u8]) -> u32
 pub extern "C" fn rkf_higher(first: &[u8], second: &[u8]) -> Part
     ensures { λ r. ⌜ r ≡ ofChoice (choice (now (first .entry)) (now (second .entry))) ⌝ }
 {
-    match reserve::rank::choose(first, second) {
+    match records::rank::choose(first, second) {
         Choice::First => Part {
             start: 0,
             length: 145,

@@ -10,16 +10,16 @@ use Rattle.settling.specs.Book as settling
 use Rattle.settling.specs.Answer.{outcome}
 use Rattle.settling.specs.Meaning.{Sound, Holds, Given, kept, dropped, bursts, already, outside, very, outranked}
 use Rattle.settling.proofs.Theorems as theorems
-use Rattle.reserve.specs.Record.{recordOf}
-use Rattle.reserve.specs.Layout.{stateIn, WellFormed}
-use Rattle.reserve.specs.Lawful.{Lawful}
-use Rattle.reserve.specs.Book.{Book, inState, read, write}
+use Rattle.records.specs.Record.{recordOf}
+use Rattle.book.specs.Layout.{stateIn, WellFormed}
+use Rattle.book.specs.Lawful.{Lawful}
+use Rattle.book.specs.Book.{Book, inState, read, write}
 use Rattle.reserve.specs.Stamps.{stampAnswer}
 use Rattle.reserve.specs.Offer.{Ended, shapeOf, entered}
 use Rattle.reserve.specs.Histories.{Offer, ByteOffer, after, answer}
 use Rattle.reserve.specs.Theorems.{Table, not-well-formed, already-overfull, stamp-refused, settles, VeryRecordHeld}
-use Rattle.reserve.proofs.Soundness.{lawful-sound}
-use Rattle.reserve.proofs.Roundtrip.{read-good, read-lawful, write-read, read-write}
+use Rattle.book.proofs.Soundness.{lawful-sound}
+use Rattle.book.proofs.Roundtrip.{read-good, read-lawful, write-read, read-write}
 use Rattle.reserve.proofs.Stamped.{stamp-fits}
 use Rattle.reserve.proofs.Ways.{Way, ill, burst, unstamped, enters, way, way-ill, way-overfull, way-stamp, way-enters}
 use Rattle.reserve.proofs.Heard.{lawful-offer}

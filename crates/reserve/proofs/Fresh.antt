@@ -9,10 +9,10 @@ use Rattle.octets.specs.Number.{bytesOf}
 use Rattle.octets.specs.Moving.{over, placed}
 use Rattle.octets.proofs.Numbers.{length-bytesOf}
 use Rattle.octets.proofs.Edits.{placed-fits}
-use Rattle.reserve.specs.Layout.{mark, laid}
-use Rattle.reserve.specs.Book.{write}
+use Rattle.book.specs.Layout.{mark, laid}
+use Rattle.book.specs.Book.{write}
 use Rattle.reserve.specs.Open.{freshBook}
-use Rattle.reserve.proofs.Headed.{over-middle}
+use Rattle.book.proofs.Headed.{over-middle}
 
 -- a whole buffer cleared
 cleared : (s : List ℕ) → placed s 0 (replicate (length s) 0) ≡ replicate (length s) 0

@@ -14,17 +14,17 @@ use Rattle.settling.proofs.Cases.{Limit, within, beyond, limit}
 use Rattle.settling.proofs.Settle.{Sought, found, nowhere, seek, offer-overfull, offer-far, offer-fits, offer-rises}
 use Rattle.settling.proofs.Sound.{offer-sound, every-offer}
 use lib.ListN.{length}
-use Rattle.reserve.specs.Record.{slot, nearOf, recordOf, Fitting}
-use Rattle.reserve.specs.Shape.{shape}
-use Rattle.reserve.specs.Layout.{stateIn, Rising, WellFormed}
-use Rattle.reserve.specs.Book.{Book, inState, write, flagOf, depthOf}
-use Rattle.reserve.specs.Lawful.{Lawful}
+use Rattle.records.specs.Record.{slot, nearOf, recordOf, Fitting}
+use Rattle.book.specs.Shape.{shape}
+use Rattle.book.specs.Layout.{stateIn, Rising, WellFormed}
+use Rattle.book.specs.Book.{Book, inState, write, flagOf, depthOf}
+use Rattle.book.specs.Lawful.{Lawful}
 use Rattle.reserve.specs.Open.{freshBook}
 use Rattle.reserve.specs.Stamps.{stampAnswer}
 use Rattle.reserve.specs.Offer.{Ended, shapeOf, entered}
 use Rattle.reserve.specs.Histories.{Offer, ByteOffer, Openable, after, heard, passing}
-use Rattle.reserve.proofs.Soundness.{lawful-sound, lawful-fitting, sound-lawful}
-use Rattle.reserve.proofs.Roundtrip.{read-write, write-well-formed}
+use Rattle.book.proofs.Soundness.{lawful-sound, lawful-fitting, sound-lawful}
+use Rattle.book.proofs.Roundtrip.{read-write, write-well-formed}
 use Rattle.reserve.proofs.Stamped.{stamp-range, stamp-fits}
 use Rattle.reserve.proofs.Ways.{way-overfull, way-stamp, way-enters}
 

@@ -8,9 +8,9 @@ use lib.ListN.{length}
 use borrow.Author.Tests.{leb-true, eq-eqb, ne-eqb}
 use Rattle.reserve.specs.declared.open.OpenAnswer.{OpenAnswer}
 use Rattle.reserve.specs.declared.open.OpenAnswer.the-variants.{Done, OutOfRange, WrongLength}
-use Rattle.reserve.specs.Book.{write}
+use Rattle.book.specs.Book.{write}
 use Rattle.reserve.specs.Open.{inRange, freshBook, left, openAnswer, openBytes}
-use Rattle.reserve.proofs.Truths.{both, fails}
+use Rattle.book.proofs.Truths.{both, fails}
 
 pub in-range : (capacity starting : ℕ) → inRange capacity starting ≡ true → (16 ≤ capacity) × (capacity ≤ 65536) × (starting ≤ 16)
 unfolding inRange

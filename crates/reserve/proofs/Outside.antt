@@ -8,16 +8,16 @@ use Rattle.octets.specs.Bytes.{Bytes}
 use Rattle.nearness.specs.Bits.{sharedBits}
 use Rattle.settling.specs.Book.{State, good}
 use Rattle.settling.specs.Meaning.{Outside, Given, kept, dropped, bursts, already, outside, very, outranked}
-use Rattle.reserve.specs.Record.{slot, nearOf, recordOf}
-use Rattle.reserve.specs.Layout.{depthIn, overlayIn}
-use Rattle.reserve.specs.Book.{read}
+use Rattle.records.specs.Record.{slot, nearOf, recordOf}
+use Rattle.book.specs.Layout.{depthIn, overlayIn}
+use Rattle.book.specs.Book.{read}
 use Rattle.reserve.specs.Stamps.{stampAnswer}
 use Rattle.reserve.specs.Offer.{shapeOf}
 use Rattle.reserve.specs.Histories.{Offer, ByteOffer, answer}
 use Rattle.reserve.specs.Theorems.{Table, not-well-formed, already-overfull, stamp-refused, settles, NearnessOfSlots, BelowDepth}
-use Rattle.reserve.proofs.Slots.{near-slot}
+use Rattle.book.proofs.Slots.{near-slot}
 use Rattle.reserve.proofs.Stamped.{stamp-fits, stamp-address, stamp-range}
-use Rattle.reserve.proofs.Roundtrip.{read-good}
+use Rattle.book.proofs.Roundtrip.{read-good}
 use Rattle.reserve.proofs.Answered.{answers-table}
 
 -- up to 16 the slot's nearness is the address's

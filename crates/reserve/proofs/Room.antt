@@ -10,17 +10,17 @@ use Rattle.settling.specs.Book as settling
 use Rattle.settling.specs.Answer.{outcome}
 use Rattle.settling.specs.Meaning.{Sound, Added}
 use Rattle.settling.proofs.Theorems as theorems
-use Rattle.reserve.specs.Record.{slot, nearOf, recordOf, Fitting}
-use Rattle.reserve.specs.Layout.{depthIn, overlayIn, capacityIn, recordsIn, WellFormed}
-use Rattle.reserve.specs.Lawful.{Lawful}
-use Rattle.reserve.specs.Book.{Book, inState, read, write}
+use Rattle.records.specs.Record.{slot, nearOf, recordOf, Fitting}
+use Rattle.book.specs.Layout.{depthIn, overlayIn, capacityIn, recordsIn, WellFormed}
+use Rattle.book.specs.Lawful.{Lawful}
+use Rattle.book.specs.Book.{Book, inState, read, write}
 use Rattle.reserve.specs.Offer.{shapeOf}
 use Rattle.reserve.specs.Histories.{Offer, ByteOffer, after, answer}
 use Rattle.reserve.specs.Theorems.{Roomy, AddedTo}
-use Rattle.reserve.proofs.Cuts.{counted}
-use Rattle.reserve.proofs.Slots.{near-inside}
-use Rattle.reserve.proofs.Soundness.{lawful-sound}
-use Rattle.reserve.proofs.Roundtrip.{read-good, read-lawful, write-well-formed, read-write}
+use Rattle.book.proofs.Cuts.{counted}
+use Rattle.book.proofs.Slots.{near-inside}
+use Rattle.book.proofs.Soundness.{lawful-sound}
+use Rattle.book.proofs.Roundtrip.{read-good, read-lawful, write-well-formed, read-write}
 use Rattle.reserve.proofs.Stamped.{stamp-fits, stamp-address}
 use Rattle.reserve.proofs.Heard.{lawful-offer, flag-there}
 use Rattle.reserve.proofs.Answered.{enters-number, enters-bytes}

@@ -1,7 +1,6 @@
 -- The test says what Layout's list says.
 use mathlib.Core.Path.{_≡_, refl, ap, _∙_}
 use mathlib.Core.Bool.{true, _&&_, _||_}
-use mathlib.Core.Logic.{_↔_}
 use mathlib.Core.List.{List, [], _∷_}
 use Prim.Native.Nat.{ℕ, zero, suc, _+_, _-_, _*_, _≤_}
 use native.Mathlib.Decide.{decLe}
@@ -15,12 +14,13 @@ use Rattle.octets.proofs.Bytes.{bytes-drop}
 use Rattle.octets.proofs.Ordered.{is-same, same-equal, order-self}
 use Rattle.nearness.specs.Bits.{sharedBits}
 use Rattle.settling.specs.Meaning.{Each}
-use Rattle.reserve.specs.Record.{addressIn, Fitting}
-use Rattle.reserve.specs.Layout.{mark, markIn, versionIn, stateIn, startingIn, depthIn, overlayIn, capacityIn, countIn, recordsIn, Rising, WellFormed}
+use Rattle.records.specs.Record.{addressIn, Fitting}
+use Rattle.book.specs.Layout.{mark, markIn, versionIn, stateIn, startingIn, depthIn, overlayIn, capacityIn, countIn, recordsIn, Rising, WellFormed}
 use Rattle.reserve.specs.Check.{labelled, sized, levelled, stands, allStand, rises, zeros, wellFormed}
-use Rattle.reserve.proofs.Truths.{both, joined}
-use Rattle.reserve.proofs.Laid.{Sized}
-use Rattle.reserve.proofs.Cuts.{each-sized, each-bytes}
+use Rattle.reserve.specs.Tested.{Tested}
+use Rattle.book.proofs.Truths.{both, joined}
+use Rattle.book.proofs.Laid.{Sized}
+use Rattle.book.proofs.Cuts.{each-sized, each-bytes}
 
 -- mark and version
 
@@ -177,5 +177,5 @@ module _ (s : List ℕ) where
       (joined (joined (true-rises (recordsIn s) (w .rising)) (true-stand (depthIn s) (overlayIn s) (recordsIn s) (w .fitting) (w .near)))
       (ap zeros (w .cleared) ∙ true-zeros (145 * (capacityIn s - countIn s))))))
 
-  pub tested : Bytes s → (wellFormed s ≡ true) ↔ WellFormed s
-  tested b = (said b, heard)
+pub tested : Tested
+tested s b = (said s b, heard s)

@@ -19,10 +19,10 @@ use Rattle.octets.specs.Pieces.{pieces}
 use Rattle.octets.proofs.Bytes.{bytes-take, bytes-drop}
 use Rattle.octets.proofs.Ordered.{compared, number-less, number-same, number-more, order-number}
 use Rattle.octets.proofs.Edits.{part-length}
-use Rattle.reserve.specs.Record.{slot}
+use Rattle.records.specs.Record.{slot}
 use Rattle.reserve.specs.Check.{stands, allStand, rises, zeros}
-use Rattle.reserve.proofs.Truths.{paired}
-use Rattle.reserve.proofs.Cuts.{records-from, records-none}
+use Rattle.book.proofs.Truths.{paired}
+use Rattle.book.proofs.Cuts.{records-from, records-none}
 
 -- zeros
 

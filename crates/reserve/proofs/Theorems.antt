@@ -8,20 +8,20 @@ use Rattle.settling.specs.History.{fresh, hear, valid, settled}
 use Rattle.settling.specs.Meaning.{Each, Settles}
 use Rattle.settling.proofs.Theorems as theorems
 use Rattle.settling.proofs.Histories.{settled-same, valid-over}
-use Rattle.reserve.specs.Shape.{shape}
-use Rattle.reserve.specs.Layout.{countIn, WellFormed}
-use Rattle.reserve.specs.Lawful.{Lawful}
-use Rattle.reserve.specs.Book.{Book, inState, heldBy, read, write}
+use Rattle.book.specs.Shape.{shape}
+use Rattle.book.specs.Layout.{countIn, WellFormed}
+use Rattle.book.specs.Lawful.{Lawful}
+use Rattle.book.specs.Book.{Book, inState, heldBy, read, write}
 use Rattle.reserve.specs.Open.{freshBook}
 use Rattle.reserve.specs.Offer.{Ended}
 use Rattle.reserve.specs.Histories.{Offer, ByteOffer, Openable, after, heard, passing, opened, settledBytes}
 use Rattle.reserve.specs.Theorems.{Histories, HistoriesByMembers, SameMembersSameBytes, CountIsRecords, AlwaysWellFormed, Answers, RefusedChangesNothing, VeryRecord, NearnessOfSlots, OutsideTheDepth, OverfullForEver, RoomIsUsed}
-use Rattle.reserve.proofs.Roundtrip.{write-well-formed, read-write}
+use Rattle.book.proofs.Roundtrip.{write-well-formed, read-write}
 use Rattle.reserve.proofs.Ways.{way-overfull}
 use Rattle.reserve.proofs.Heard.{lawful-fresh, heard-hear, lawful-hear}
 use Rattle.reserve.proofs.Answered as answered
 use Rattle.reserve.proofs.Outside.{near-offer, outside-below, below-outside}
-use Rattle.reserve.proofs.Cuts
+use Rattle.book.proofs.Cuts
 use Rattle.reserve.proofs.Room.{records-there, room-used}
 use Rattle.reserve.proofs.Heard.{flag-there}
 

@@ -6,9 +6,9 @@ use Prim.Native.Nat.{ℕ, _+_, _*_, _<_}
 use native.Mathlib.Omega.{arith}
 use lib.ListN.{length, drop}
 use Rattle.reserve.specs.declared.check.BookAnswer.the-variants.{WellFormed, NotWellFormed}
-use Rattle.reserve.specs.Layout.{capacityIn, countIn, stateIn, startingIn, depthIn, overlayIn, recordsIn}
+use Rattle.book.specs.Layout.{capacityIn, countIn, stateIn, startingIn, depthIn, overlayIn, recordsIn}
 use Rattle.reserve.specs.Check.{labelled, sized, levelled, zeros, wellFormed, checked}
-use Rattle.reserve.proofs.Truths.{fails, joined}
+use Rattle.book.proofs.Truths.{fails, joined}
 use Rattle.reserve.proofs.Tests.{bothHold}
 use Rattle.reserve.proofs.Tested.{sized-true}
 

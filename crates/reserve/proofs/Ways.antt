@@ -8,9 +8,9 @@ use native.Mathlib.Omega.{arith}
 use lib.Dec.{eqb}
 use borrow.Author.Tests.{eq-eqb, ne-eqb}
 use Rattle.octets.specs.Bytes.{Bytes}
-use Rattle.reserve.specs.Record.{recordOf}
-use Rattle.reserve.specs.Layout.{stateIn, WellFormed}
-use Rattle.reserve.specs.Book.{read}
+use Rattle.records.specs.Record.{recordOf}
+use Rattle.book.specs.Layout.{stateIn, WellFormed}
+use Rattle.book.specs.Book.{read}
 use Rattle.reserve.specs.declared.check.BookAnswer.{BookAnswer}
 use Rattle.reserve.specs.declared.check.BookAnswer.the-variants.{WellFormed as Formed, NotWellFormed}
 use Rattle.reserve.specs.Check.{wellFormed, checked}

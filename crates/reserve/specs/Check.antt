@@ -8,8 +8,8 @@ use Rattle.octets.specs.Order.{byteOrder, isSame}
 use Rattle.nearness.specs.Bits.{sharedBits}
 use Rattle.reserve.specs.declared.check.BookAnswer.{BookAnswer}
 use Rattle.reserve.specs.declared.check.BookAnswer.the-variants.{WellFormed, NotWellFormed}
-use Rattle.reserve.specs.Record.{slot, bucketIn, indexIn, addressIn, bucketOf}
-use Rattle.reserve.specs.Layout.{mark, markIn, versionIn, stateIn, startingIn, depthIn, overlayIn, capacityIn, countIn, recordsIn}
+use Rattle.records.specs.Record.{slot, bucketIn, indexIn, addressIn, bucketOf}
+use Rattle.book.specs.Layout.{mark, markIn, versionIn, stateIn, startingIn, depthIn, overlayIn, capacityIn, countIn, recordsIn}
 
 -- mark and version
 unfoldable pub labelled : List ℕ → Bool

@@ -8,9 +8,9 @@ use lib.Dec.{eqb}
 use lib.ListN.{length}
 use Rattle.octets.specs.Bytes.{Bytes}
 use Rattle.settling.specs.History.{valid, settled}
-use Rattle.reserve.specs.Record.{recordOf}
-use Rattle.reserve.specs.Shape.{shape}
-use Rattle.reserve.specs.Book.{inState, write}
+use Rattle.records.specs.Record.{recordOf}
+use Rattle.book.specs.Shape.{shape}
+use Rattle.book.specs.Book.{inState, write}
 use Rattle.reserve.specs.Open.{freshBook}
 use Rattle.reserve.specs.Stamps.{stampAnswer}
 use Rattle.reserve.specs.Offer.{offered}

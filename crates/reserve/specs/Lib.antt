@@ -1,16 +1,7 @@
--- The book as bytes, and the state that it stands for.
-
--- records, and bytes that are a book
-pub mod Record
-pub mod Layout
-pub mod Rank
-pub mod Choice
-pub mod Order
-pub mod Shape
-pub mod Book
+-- Well-formed books, opening, and the offer.
 pub mod Check
+pub mod Tested
 pub mod Open
-pub mod Lawful
 -- the offer, and what is proved of it
 pub mod Stamps
 pub mod Answer

@@ -7,7 +7,7 @@ use lib.ListN.{length}
 use Rattle.settling.specs.Book.{good}
 use Rattle.reserve.specs.declared.open.OpenAnswer.{OpenAnswer}
 use Rattle.reserve.specs.declared.open.OpenAnswer.the-variants.{Done, OutOfRange, WrongLength}
-use Rattle.reserve.specs.Book.{Book, write}
+use Rattle.book.specs.Book.{Book, write}
 
 -- "Capacity 16 to 65,536", starting depth 0 to 16
 unfoldable pub inRange : ℕ → ℕ → Bool

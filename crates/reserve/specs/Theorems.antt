@@ -9,10 +9,10 @@ use Rattle.octets.specs.Bytes.{Bytes}
 use Rattle.nearness.specs.Bits.{sharedBits}
 use Rattle.settling.specs.History.{valid, settled}
 use Rattle.settling.specs.Meaning.{Each, Given, Settles}
-use Rattle.reserve.specs.Record.{slot, recordOf, nearOf}
-use Rattle.reserve.specs.Shape.{shape}
-use Rattle.reserve.specs.Layout.{stateIn, depthIn, overlayIn, capacityIn, countIn, recordsIn, WellFormed}
-use Rattle.reserve.specs.Book.{heldBy, read}
+use Rattle.records.specs.Record.{slot, recordOf, nearOf}
+use Rattle.book.specs.Shape.{shape}
+use Rattle.book.specs.Layout.{stateIn, depthIn, overlayIn, capacityIn, countIn, recordsIn, WellFormed}
+use Rattle.book.specs.Book.{heldBy, read}
 use Rattle.reserve.specs.Stamps.{stampAnswer}
 use Rattle.reserve.specs.Offer.{shapeOf}
 use Rattle.reserve.specs.Histories.{Offer, ByteOffer, Openable, after, answer, heard, passing, opened, settledBytes}

@@ -1,9 +1,8 @@
 // Whether bytes are a well-formed book: one pass.
-use crate::header::byte;
-use crate::header::capacity;
-use crate::header::count;
-use crate::header::depth;
-use crate::header::starting_depth;
+use book::header::capacity;
+use book::header::count;
+use book::header::depth;
+use book::header::starting_depth;
 use nearness::near::nearness;
 use octets::number::read16;
 use octets::number::read32;
@@ -14,7 +13,7 @@ ghost use mathlib.Core.Bool.{_&&_};
 ghost use Prim.Native.Nat.{_+_, _-_, _*_, _≤_, _<_};
 ghost use lib.ListN.{length, take, drop};
 ghost use Rattle.octets.specs.Pieces.{pieces};
-ghost use Rattle.reserve.specs.Layout.{depthIn, overlayIn};
+ghost use Rattle.book.specs.Layout.{depthIn, overlayIn};
 ghost use Rattle.reserve.specs.Check.{labelled, sized, levelled, stands, allStand, rises, zeros, checked, bookNumber};
 
 // What is said of bytes that are to be a book.
@@ -49,7 +48,7 @@ pub fn check_book(book: &[u8]) -> BookAnswer
     if !is_sized(book.len(), capacity(book), records) {
         return BookAnswer::NotWellFormed;
     }
-    if !is_levelled(byte(book, 5), starting_depth(book), depth(book), records) {
+    if !is_levelled(book[5], starting_depth(book), depth(book), records) {
         return BookAnswer::NotWellFormed;
     }
     if !records_stand(book, records) {

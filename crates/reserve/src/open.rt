@@ -5,7 +5,7 @@ use octets::number::write32;
 ghost use mathlib.Core.Path.{_≡_};
 ghost use Prim.Native.Nat.{_+_, _*_};
 ghost use lib.ListN.{length};
-ghost use Rattle.reserve.specs.Book.{write};
+ghost use Rattle.book.specs.Book.{write};
 ghost use Rattle.reserve.specs.Open.{inRange, freshBook, openAnswer, openBytes, openNumber};
 
 // What opening answers.

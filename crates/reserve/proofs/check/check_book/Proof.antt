@@ -6,11 +6,11 @@ use borrow.Author.Needs.{needs}
 use borrow.Author.Tests.{not-true, not-false}
 use lib.ListN.{length, drop}
 use Rattle.octets.specs.Pieces.{pieces}
-use Rattle.reserve.specs.Layout.{stateIn, startingIn, depthIn, overlayIn, capacityIn, countIn, recordsIn}
+use Rattle.book.specs.Layout.{stateIn, startingIn, depthIn, overlayIn, capacityIn, countIn, recordsIn}
 use Rattle.reserve.specs.Check.{sized, levelled, zeros}
 use Rattle.reserve.proofs.Tests.{bothHold}
 use Rattle.reserve.proofs.Tested.{Measured, sized-true}
-use Rattle.reserve.proofs.Fields
+use Rattle.book.proofs.Fields
 use Rattle.reserve.proofs.Verdicts
 use Rattle.reserve.proofs.check.check_book.Statement.{statement}
 use Rattle.reserve.proofs.check.check_book.Tie as tie
@@ -38,7 +38,7 @@ levels : (w : tie.After-is-levelled) → let s = w .before .before .before .befo
 levels w =
     let d = w .before in
     let z = d .before .before .before .before in
-    w .is-levelled .ensures ∙ rw (d .before .before .byte .ensures, d .before .starting-depth .ensures, d .depth .ensures, counted (z .before .before))
+    w .is-levelled .ensures ∙ rw (d .before .starting-depth .ensures, d .depth .ensures, counted (z .before .before))
 
 stand : (w : tie.After-records-stand) → let s = w .before .before .before .before .before .before .before .before .before .before .before .before .before .before .args .book .now in
     w .records-stand .result ≡ bothHold (depthIn s) (overlayIn s) (recordsIn s)
@@ -134,7 +134,7 @@ check-book-spec =
     (λ c κs. search needs)
     (λ c κs. search needs)
     returns-3
-    (λ c κs. search needs)
+    (λ c. search needs)
     (λ c κs. search needs)
     (λ c κs. search needs)
     (λ c κs. search needs)

@@ -9,7 +9,7 @@ use Rattle.octets.specs.Order.{isSame}
 use Rattle.octets.specs.declared.order.Order.{Order}
 use Rattle.octets.specs.declared.order.Order.the-variants.{Less, Same, More}
 use Rattle.octets.proofs.Numbers.{bigAt-fits}
-use Rattle.reserve.specs.Layout.{versionIn}
+use Rattle.book.specs.Layout.{versionIn}
 use Rattle.reserve.specs.Check.{labelled}
 use Rattle.reserve.proofs.check.is_labelled.Statement.{statement}
 use Rattle.reserve.proofs.check.is_labelled.Tie as tie

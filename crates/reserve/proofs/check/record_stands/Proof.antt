@@ -7,9 +7,9 @@ use borrow.Author.Tests.{le-ltb, lt-ltb, eq-eqb, ne-eqb}
 use lib.Dec.{leb}
 use Rattle.nearness.specs.Near.{bitsIn}
 use Rattle.octets.proofs.Edits.{part-length}
-use Rattle.reserve.specs.Record.{bucketIn, indexIn, addressIn, bucketOf}
+use Rattle.records.specs.Record.{bucketIn, indexIn, addressIn, bucketOf}
 use Rattle.reserve.specs.Check.{stands}
-use Rattle.reserve.proofs.Fields
+use Rattle.book.proofs.Fields
 use Rattle.reserve.proofs.check.record_stands.Statement.{statement}
 use Rattle.reserve.proofs.check.record_stands.Tie as tie
 use Rattle.reserve.proofs.check.record_stands.Reads as reads

@@ -8,7 +8,7 @@ use borrow.Author.Tests.{not-true, not-false}
 use lib.ListN.{take, drop}
 use Rattle.octets.specs.Pieces.{pieces}
 use Rattle.octets.proofs.Edits.{part-length}
-use Rattle.reserve.specs.Layout.{depthIn, overlayIn}
+use Rattle.book.specs.Layout.{depthIn, overlayIn}
 use Rattle.reserve.specs.Check.{stands}
 use Rattle.reserve.proofs.Tests.{bothHold, turn, passed}
 use Rattle.reserve.proofs.check.records_stand.Statement.{statement}
