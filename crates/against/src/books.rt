@@ -24,13 +24,13 @@ fn open(rest: &[u8], came: &mut [u8]) -> usize {
         return 0;
     }
     put(came, 4, book);
-    let answer = reserve::open::open(&mut came[4..end], field(rest, 1), capacity, starting);
+    let answer = opening::open::open(&mut came[4..end], field(rest, 1), capacity, starting);
     write32(came, 0, answer.number());
     end
 }
 
 fn check_book(rest: &[u8], came: &mut [u8]) -> usize {
-    let answer = reserve::check::check_book(field(rest, 0));
+    let answer = wellformed::check::check_book(field(rest, 0));
     write32(came, 0, answer.number());
     4
 }

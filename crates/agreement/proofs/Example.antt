@@ -20,9 +20,9 @@ use Rattle.settling.specs.Meaning.{Each}
 use Rattle.records.specs.Record.{nearOf}
 use Rattle.records.specs.Rank.{rankOrder, beats}
 use Rattle.reserve.specs.Stamps.{stampAnswer}
-use Rattle.reserve.specs.Histories.{Offer, ByteOffer, heard, opened}
+use Rattle.histories.specs.Histories.{Offer, ByteOffer, heard, opened}
 use Rattle.book.specs.Layout.{laid}
-use Rattle.reserve.specs.Check.{labelled, sized, levelled, stands, allStand, rises, zeros, wellFormed}
+use Rattle.wellformed.specs.Check.{labelled, sized, levelled, stands, allStand, rises, zeros, wellFormed}
 use Rattle.book.specs.Book.{read, write}
 use Rattle.reserve.specs.Offer.{entered, offered}
 use Rattle.agreement.specs.Theorems.{Became, SameOffers}

@@ -7,8 +7,8 @@ use lib.ListN.{replicate}
 use Rattle.settling.specs.Book.{good}
 use Rattle.records.specs.Record.{recordOf}
 use Rattle.book.specs.Book.{write, inState}
-use Rattle.reserve.specs.Open.{freshBook}
-use Rattle.reserve.specs.Histories.{Offer, after, answer, opened}
+use Rattle.opening.specs.Open.{freshBook}
+use Rattle.histories.specs.Histories.{Offer, after, answer, opened}
 use Rattle.agreement.specs.Theorems.{Became, SameOffers}
 
 unfoldable pub overlay : List ℕ

@@ -11,8 +11,8 @@ use Rattle.chunk.specs.Tree.{addressOf}
 use Rattle.settling.specs.Meaning.{Each}
 use Rattle.records.specs.Record.{addressIn}
 use Rattle.book.specs.Layout.{recordsIn}
-use Rattle.reserve.specs.Open.{openAnswer, openBytes, openNumber}
-use Rattle.reserve.specs.Histories.{Offer, ByteOffer, heard}
+use Rattle.opening.specs.Open.{openAnswer, openBytes, openNumber}
+use Rattle.histories.specs.Histories.{Offer, ByteOffer, heard}
 use Rattle.draw.specs.Answer.{drawNumber}
 use Rattle.draw.specs.Shelf.{Cell, ownAddress, pairOf}
 use Rattle.draw.specs.Sample.{SixteenSmallest, written, sampleSpan}

@@ -9,9 +9,9 @@ use book::header::count;
 use book::header::depth;
 use draw::draw;
 use keccak::keccak256;
+use opening::open::open;
 use reserve::offer::OfferAnswer;
 use reserve::offer::offer;
-use reserve::open::open;
 
 // How many records a book has room for.
 pub(crate) const CAPACITY: u64 = 24;

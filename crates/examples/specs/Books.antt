@@ -7,7 +7,7 @@ use lib.ListN.{replicate}
 use Rattle.octets.specs.Number.{bytesOf}
 use Rattle.postage.specs.Stamp.{bucketOf}
 use Rattle.book.specs.Layout.{stateIn, depthIn, countIn}
-use Rattle.reserve.specs.Histories.{Offer, after, answer, heard, opened}
+use Rattle.histories.specs.Histories.{Offer, after, answer, heard, opened}
 use Rattle.listing.specs.Sheet.{example}
 use Rattle.examples.specs.Settled as Settled
 use Rattle.examples.specs.Settled.{owner}

@@ -5,7 +5,7 @@ use Prim.Native.Nat.{ℕ}
 use lib.Dec.{ltb}
 use lib.ListN.{length}
 use Rattle.book.specs.Layout.{overlayIn, recordsIn}
-use Rattle.reserve.specs.Check.{wellFormed}
+use Rattle.wellformed.specs.Check.{wellFormed}
 use Rattle.listing.specs.Line.{line, headerLine, recordLines}
 
 -- `too large`

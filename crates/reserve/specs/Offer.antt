@@ -10,7 +10,7 @@ use Rattle.records.specs.Record.{recordOf}
 use Rattle.book.specs.Shape.{shape}
 use Rattle.book.specs.Layout.{stateIn}
 use Rattle.book.specs.Book.{Book, inState, read, write}
-use Rattle.reserve.specs.Check.{wellFormed}
+use Rattle.wellformed.specs.Check.{wellFormed}
 use Rattle.reserve.specs.Stamps.{stampAnswer}
 
 -- the number handed back, and the book's bytes afterwards

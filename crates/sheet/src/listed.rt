@@ -13,7 +13,7 @@ use nearness::near::nearness;
 use octets::number::read16;
 use octets::number::read32;
 use octets::number::read64;
-use reserve::check::check_book;
+use wellformed::check::check_book;
 
 // The batch depth of the example.
 const BATCH_DEPTH: u8 = 17;
