@@ -24,19 +24,19 @@ fn open(rest: &[u8], came: &mut [u8]) -> usize {
         return 0;
     }
     put(came, 4, book);
-    let answer = reserve::open::open(&mut came[4..end], field(rest, 1), capacity, starting);
+    let answer = opening::open::open(&mut came[4..end], field(rest, 1), capacity, starting);
     write32(came, 0, answer.number());
     end
 }
 
 fn check_book(rest: &[u8], came: &mut [u8]) -> usize {
-    let answer = reserve::check::check_book(field(rest, 0));
+    let answer = wellformed::check::check_book(field(rest, 0));
     write32(came, 0, answer.number());
     4
 }
 
 fn higher(rest: &[u8], came: &mut [u8]) -> usize {
-    let part = reserve::rank::higher(field(rest, 0), field(rest, 1));
+    let part = records::rank::higher(field(rest, 0), field(rest, 1));
     put(came, 0, part);
     lent_end(came.len(), 0, part.len())
 }

@@ -5,8 +5,8 @@ use Prim.Native.Nat.{ℕ, _*_}
 use native.Mathlib.Omega.{arith}
 use lib.ListN.{length}
 use Rattle.chunk.specs.Tree.{addressOf}
-use Rattle.reserve.specs.Record.{addressIn}
-use Rattle.reserve.specs.Layout.{recordsIn}
+use Rattle.records.specs.Record.{addressIn}
+use Rattle.book.specs.Layout.{recordsIn}
 use Rattle.draw.specs.declared.answer.DrawAnswer.{DrawAnswer}
 use Rattle.draw.specs.declared.answer.DrawAnswer.the-variants.{Done, NotWellFormed, Overfull, WrongLength, ShelfEnds, TooLong, Mismatch, Left, TooFew}
 use Rattle.draw.specs.Answer.{drawNumber}

@@ -17,13 +17,13 @@ use Rattle.settling.specs.Rank.{higher}
 use Rattle.settling.specs.Book.{enter, inside, settle, offer}
 use Rattle.settling.specs.Answer.{holder, taken, against, outcome}
 use Rattle.settling.specs.Meaning.{Each}
-use Rattle.reserve.specs.Record.{nearOf}
-use Rattle.reserve.specs.Rank.{rankOrder, beats}
+use Rattle.records.specs.Record.{nearOf}
+use Rattle.records.specs.Rank.{rankOrder, beats}
 use Rattle.reserve.specs.Stamps.{stampAnswer}
-use Rattle.reserve.specs.Histories.{Offer, ByteOffer, heard, opened}
-use Rattle.reserve.specs.Layout.{laid}
-use Rattle.reserve.specs.Check.{labelled, sized, levelled, stands, allStand, rises, zeros, wellFormed}
-use Rattle.reserve.specs.Book.{read, write}
+use Rattle.histories.specs.Histories.{Offer, ByteOffer, heard, opened}
+use Rattle.book.specs.Layout.{laid}
+use Rattle.wellformed.specs.Check.{labelled, sized, levelled, stands, allStand, rises, zeros, wellFormed}
+use Rattle.book.specs.Book.{read, write}
 use Rattle.reserve.specs.Offer.{entered, offered}
 use Rattle.agreement.specs.Theorems.{Became, SameOffers}
 use Rattle.agreement.specs.Example.{overlay, batches, address, stampAt, offerBy, these, those, answers, lateAlone, Example}

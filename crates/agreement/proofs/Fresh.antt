@@ -9,11 +9,11 @@ use lib.ListN.{length}
 use borrow.Author.Tests.{eqb-true, le-leb}
 use Rattle.octets.specs.Bytes.{Bytes}
 use Rattle.settling.specs.Meaning.{Each}
-use Rattle.reserve.specs.declared.open.OpenAnswer.{OpenAnswer}
-use Rattle.reserve.specs.declared.open.OpenAnswer.the-variants.{Done, OutOfRange, WrongLength}
-use Rattle.reserve.specs.Open.{inRange, freshBook, left, openAnswer, openBytes, openNumber}
-use Rattle.reserve.specs.Histories.{Openable, opened}
-use Rattle.reserve.proofs.Opening.{in-range, opens}
+use Rattle.opening.specs.declared.open.OpenAnswer.{OpenAnswer}
+use Rattle.opening.specs.declared.open.OpenAnswer.the-variants.{Done, OutOfRange, WrongLength}
+use Rattle.opening.specs.Open.{inRange, freshBook, left, openAnswer, openBytes, openNumber}
+use Rattle.histories.specs.Histories.{Openable, opened}
+use Rattle.opening.proofs.Opening.{in-range, opens}
 
 -- 0 is the number of no other answer
 done : (a : OpenAnswer) → openNumber a ≡ 0 → a ≡ Done

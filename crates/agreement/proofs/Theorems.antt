@@ -5,8 +5,8 @@ use mathlib.Core.List.{List, Memᴰ·append-right, List·Memᴰ·append-cases}
 use Prim.Native.Nat.{ℕ}
 use Rattle.settling.specs.Meaning.{Each}
 use Rattle.settling.proofs.Members.{each-member}
-use Rattle.reserve.specs.Histories.{Offer, ByteOffer, heard, opened}
-use Rattle.reserve.proofs.Theorems.{same-members-same-bytes}
+use Rattle.histories.specs.Histories.{Offer, ByteOffer, heard, opened}
+use Rattle.histories.proofs.Theorems.{same-members-same-bytes}
 use Rattle.draw.specs.Draw.{addressesIn}
 use Rattle.draw.proofs.Theorems.{one-anchor-one-hash, one-hash-one-sample}
 use Rattle.agreement.specs.Theorems.{Became, SameOffersSameBytes, EveryOpening, OrderAndRepeats, SameOffersSameHash, SameHashSamePairs, TheSample, Demand3}

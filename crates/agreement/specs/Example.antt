@@ -5,10 +5,10 @@ use mathlib.Core.List.{List, [], _∷_, _++_}
 use Prim.Native.Nat.{ℕ}
 use lib.ListN.{replicate}
 use Rattle.settling.specs.Book.{good}
-use Rattle.reserve.specs.Record.{recordOf}
-use Rattle.reserve.specs.Book.{write, inState}
-use Rattle.reserve.specs.Open.{freshBook}
-use Rattle.reserve.specs.Histories.{Offer, after, answer, opened}
+use Rattle.records.specs.Record.{recordOf}
+use Rattle.book.specs.Book.{write, inState}
+use Rattle.opening.specs.Open.{freshBook}
+use Rattle.histories.specs.Histories.{Offer, after, answer, opened}
 use Rattle.agreement.specs.Theorems.{Became, SameOffers}
 
 unfoldable pub overlay : List ℕ

@@ -9,10 +9,10 @@ use Rattle.octets.specs.Bytes.{Bytes}
 use Rattle.keccak.specs.Collision.{Collision}
 use Rattle.chunk.specs.Tree.{addressOf}
 use Rattle.settling.specs.Meaning.{Each}
-use Rattle.reserve.specs.Record.{addressIn}
-use Rattle.reserve.specs.Layout.{recordsIn}
-use Rattle.reserve.specs.Open.{openAnswer, openBytes, openNumber}
-use Rattle.reserve.specs.Histories.{Offer, ByteOffer, heard}
+use Rattle.records.specs.Record.{addressIn}
+use Rattle.book.specs.Layout.{recordsIn}
+use Rattle.opening.specs.Open.{openAnswer, openBytes, openNumber}
+use Rattle.histories.specs.Histories.{Offer, ByteOffer, heard}
 use Rattle.draw.specs.Answer.{drawNumber}
 use Rattle.draw.specs.Shelf.{Cell, ownAddress, pairOf}
 use Rattle.draw.specs.Sample.{SixteenSmallest, written, sampleSpan}

@@ -5,13 +5,13 @@ use crate::stock::heard_count;
 use crate::stock::heard_place;
 use crate::stock::missed;
 use crate::stock::one_more;
+use book::header::count;
+use book::header::depth;
 use draw::draw;
 use keccak::keccak256;
-use reserve::header::count;
-use reserve::header::depth;
+use opening::open::open;
 use reserve::offer::OfferAnswer;
 use reserve::offer::offer;
-use reserve::open::open;
 
 // How many records a book has room for.
 pub(crate) const CAPACITY: u64 = 24;

@@ -1,9 +1,9 @@
 // The shelf of a machine: the chunks of its own book's records, in their order.
 use crate::verdict::equal;
+use book::header::count;
+use book::record::record_at;
 use octets::moving::put;
 use octets::number::read16;
-use reserve::header::count;
-use reserve::record::record_at;
 ghost use Prim.Native.Nat.{_≤_};
 ghost use lib.ListN.{length};
 

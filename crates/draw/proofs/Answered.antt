@@ -7,10 +7,10 @@ use native.Mathlib.Omega.{arith}
 use lib.Dec.{eqb, ltb}
 use lib.ListN.{length, length-take, length-map, replicate}
 use borrow.Author.Tests.{ltb-false, eqb-true}
-use Rattle.reserve.specs.Record.{addressIn}
-use Rattle.reserve.specs.Layout.{stateIn, countIn, recordsIn}
-use Rattle.reserve.specs.Check.{wellFormed}
-use Rattle.reserve.proofs.Cuts.{counted}
+use Rattle.records.specs.Record.{addressIn}
+use Rattle.book.specs.Layout.{stateIn, countIn, recordsIn}
+use Rattle.wellformed.specs.Check.{wellFormed}
+use Rattle.book.proofs.Cuts.{counted}
 use Rattle.draw.specs.declared.answer.DrawAnswer.{DrawAnswer}
 use Rattle.draw.specs.declared.answer.DrawAnswer.the-variants.{Done, NotWellFormed, Overfull, WrongLength, TooFew}
 use Rattle.draw.specs.Answer.{onlyDone, andThen}

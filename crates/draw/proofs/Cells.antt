@@ -19,9 +19,9 @@ use Rattle.chunk.specs.Answer.{addressed, anchoredAddressed}
 use Rattle.chunk.specs.declared.addresses.Addressed.{Addressed}
 use Rattle.chunk.proofs.Answers.{addressed-done, anchored-addressed-done}
 use Rattle.chunk.proofs.Theorems.{address-length}
-use Rattle.reserve.specs.declared.check.BookAnswer.the-variants as Checked
-use Rattle.reserve.specs.Layout.{stateIn}
-use Rattle.reserve.specs.Check.{wellFormed, checked, bookNumber}
+use Rattle.wellformed.specs.declared.check.BookAnswer.the-variants as Checked
+use Rattle.book.specs.Layout.{stateIn}
+use Rattle.wellformed.specs.Check.{wellFormed, checked, bookNumber}
 use Rattle.draw.specs.declared.answer.DrawAnswer.the-variants.{Done, NotWellFormed, Overfull, WrongLength, ShelfEnds, TooLong}
 use Rattle.draw.specs.Shelf.{Cell, ownAddress, pairOf, sizeIn, cellIn, matching, cellAnswer}
 use Rattle.draw.specs.Draw.{lentAnswer}

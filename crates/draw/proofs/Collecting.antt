@@ -9,8 +9,8 @@ use lib.ListN.{length, take, drop, length-drop}
 use borrow.Author.Tests.{eq-eqb, ne-eqb}
 use Rattle.octets.specs.Pieces.{pieces}
 use Rattle.octets.proofs.Pieces.{length-pieces, pieces-none}
-use Rattle.reserve.specs.Record.{addressIn}
-use Rattle.reserve.specs.Layout.{countIn, recordIn}
+use Rattle.records.specs.Record.{addressIn}
+use Rattle.book.specs.Layout.{countIn, recordIn}
 use Rattle.draw.specs.declared.answer.DrawAnswer.{DrawAnswer}
 use Rattle.draw.specs.declared.answer.DrawAnswer.the-variants.{Done, NotWellFormed, Overfull, WrongLength, ShelfEnds, TooLong, Mismatch, Left, TooFew}
 use Rattle.draw.specs.declared.drawing.CellRead.{CellRead}

@@ -10,9 +10,9 @@ use lib.Dec.{eqb, ltb}
 use lib.ListN.{length, getD, drop, drop-of-length-le}
 use borrow.Author.Tests.{lt-ltb, le-ltb, eq-eqb, ne-eqb}
 use Rattle.octets.specs.Bytes.{Bytes}
-use Rattle.reserve.specs.Layout.{stateIn, countIn, WellFormed}
-use Rattle.reserve.specs.Check.{wellFormed}
-use Rattle.reserve.proofs.Tested.{said as untested, heard as tested}
+use Rattle.book.specs.Layout.{stateIn, countIn, WellFormed}
+use Rattle.wellformed.specs.Check.{wellFormed}
+use Rattle.wellformed.proofs.Tested.{said as untested, heard as tested}
 use Rattle.draw.specs.declared.answer.DrawAnswer.{DrawAnswer}
 use Rattle.draw.specs.declared.answer.DrawAnswer.the-variants.{Done, NotWellFormed, Overfull, WrongLength, Left, TooFew}
 use Rattle.draw.specs.Answer.{drawNumber, andThen}

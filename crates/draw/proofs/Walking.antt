@@ -7,10 +7,10 @@ use native.Mathlib.Numerals.{add-one}
 use native.Mathlib.Omega.{arith}
 use lib.ListN.{length, take, drop, length-drop, drop-of-length-le, List·getD-map}
 use lib.Seq.{take-all, drop-drop, drop-cons}
-use Rattle.reserve.specs.Record.{addressIn}
-use Rattle.reserve.specs.Layout.{capacityIn, countIn, recordsIn, recordIn}
-use Rattle.reserve.specs.Check.{labelled, sized, wellFormed}
-use Rattle.reserve.proofs.Tested.{sized-true}
+use Rattle.records.specs.Record.{addressIn}
+use Rattle.book.specs.Layout.{capacityIn, countIn, recordsIn, recordIn}
+use Rattle.wellformed.specs.Check.{labelled, sized, wellFormed}
+use Rattle.wellformed.proofs.Tested.{sized-true}
 use Rattle.draw.specs.Answer.{andThen}
 use Rattle.draw.specs.Shelf.{pairOf, sizeIn, cellIn, behind, cellsOn, cellAnswer, shelfAnswer}
 use Rattle.draw.specs.Sample.{entered, gathered, sixteen}

@@ -4,9 +4,9 @@ use mathlib.Core.List.{List, _++_, map}
 use Prim.Native.Nat.{ℕ}
 use lib.Dec.{eqb, ltb}
 use lib.ListN.{length, replicate}
-use Rattle.reserve.specs.Record.{addressIn}
-use Rattle.reserve.specs.Layout.{stateIn, countIn, recordsIn}
-use Rattle.reserve.specs.Check.{wellFormed}
+use Rattle.records.specs.Record.{addressIn}
+use Rattle.book.specs.Layout.{stateIn, countIn, recordsIn}
+use Rattle.wellformed.specs.Check.{wellFormed}
 use Rattle.draw.specs.declared.answer.DrawAnswer.{DrawAnswer}
 use Rattle.draw.specs.declared.answer.DrawAnswer.the-variants.{Done, NotWellFormed, Overfull, WrongLength, TooFew}
 use Rattle.draw.specs.declared.answer.DrawResult.{DrawResult}

@@ -6,7 +6,7 @@ use Prim.Native.Nat.{ℕ, zero, suc, _+_, _≤_, _<_}
 use lib.ListN.{length, getD}
 use Rattle.octets.specs.Bytes.{Bytes}
 use Rattle.keccak.specs.Collision.{Collision}
-use Rattle.reserve.specs.Layout.{stateIn, countIn, WellFormed}
+use Rattle.book.specs.Layout.{stateIn, countIn, WellFormed}
 use Rattle.draw.specs.declared.answer.DrawAnswer.the-variants.{Done}
 use Rattle.draw.specs.Answer.{drawNumber, drawPlace}
 use Rattle.draw.specs.Shelf.{ownAddress, sizeIn, cellIn, behind}

@@ -10,13 +10,13 @@ use Rattle.postage.specs.Rules.{inBucket, inSlots, isOwner, rules, checked}
 use Rattle.settling.specs.Rank.{higher}
 use Rattle.settling.specs.Book.{enter, inside, settle, offer}
 use Rattle.settling.specs.Answer.{holder, taken, against, outcome}
-use Rattle.reserve.specs.Record.{nearOf}
-use Rattle.reserve.specs.Rank.{rankOrder, beats}
+use Rattle.records.specs.Record.{nearOf}
+use Rattle.records.specs.Rank.{rankOrder, beats}
 use Rattle.reserve.specs.Stamps.{stampAnswer}
-use Rattle.reserve.specs.Histories.{heard}
-use Rattle.reserve.specs.Layout.{laid}
-use Rattle.reserve.specs.Check.{labelled, sized, levelled, stands, allStand, rises, zeros, wellFormed}
-use Rattle.reserve.specs.Book.{read, write}
+use Rattle.histories.specs.Histories.{heard}
+use Rattle.book.specs.Layout.{laid}
+use Rattle.wellformed.specs.Check.{labelled, sized, levelled, stands, allStand, rises, zeros, wellFormed}
+use Rattle.book.specs.Book.{read, write}
 use Rattle.reserve.specs.Offer.{entered, offered}
 use Rattle.examples.specs.Books.{batches, address, stamp, slotAt, slots, nineAndSeven, eightOfEach, inBucket0, fresh, answers, SettledBooks}
 

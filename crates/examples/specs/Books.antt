@@ -6,8 +6,8 @@ use Prim.Native.Nat.{ℕ, zero, suc}
 use lib.ListN.{replicate}
 use Rattle.octets.specs.Number.{bytesOf}
 use Rattle.postage.specs.Stamp.{bucketOf}
-use Rattle.reserve.specs.Layout.{stateIn, depthIn, countIn}
-use Rattle.reserve.specs.Histories.{Offer, after, answer, heard, opened}
+use Rattle.book.specs.Layout.{stateIn, depthIn, countIn}
+use Rattle.histories.specs.Histories.{Offer, after, answer, heard, opened}
 use Rattle.listing.specs.Sheet.{example}
 use Rattle.examples.specs.Settled as Settled
 use Rattle.examples.specs.Settled.{owner}

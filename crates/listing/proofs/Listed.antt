@@ -8,13 +8,13 @@ use lib.ListN.{length, take, drop}
 use Rattle.octets.specs.Moving.{over}
 use Rattle.octets.specs.Pieces.{pieces}
 use borrow.Author.Tests.{lt-ltb, le-ltb}
-use Rattle.reserve.specs.declared.check.BookAnswer.the-variants.{WellFormed, NotWellFormed}
-use Rattle.reserve.specs.Layout.{capacityIn, countIn}
-use Rattle.reserve.specs.Check.{labelled, sized, wellFormed, checked}
-use Rattle.reserve.proofs.Truths.{both}
-use Rattle.reserve.proofs.Tested.{Measured, sized-true}
-use Rattle.reserve.proofs.Ways.{formed-as}
-use Rattle.reserve.proofs.Cuts.{records-from, records-none}
+use Rattle.wellformed.specs.declared.check.BookAnswer.the-variants.{WellFormed, NotWellFormed}
+use Rattle.book.specs.Layout.{capacityIn, countIn}
+use Rattle.wellformed.specs.Check.{labelled, sized, wellFormed, checked}
+use Rattle.book.proofs.Truths.{both}
+use Rattle.wellformed.proofs.Tested.{Measured, sized-true}
+use Rattle.wellformed.proofs.Verdicts.{formed-as}
+use Rattle.book.proofs.Cuts.{records-from, records-none}
 use Rattle.listing.specs.Line.{lineFeed, line, recordLine, recordLines}
 use Rattle.listing.specs.Listing.{tooLarge, badBook, listing, printed}
 use Rattle.listing.specs.Put.{Put}

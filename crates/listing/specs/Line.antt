@@ -6,8 +6,8 @@ use lib.Dec.{eqb}
 use lib.ListN.{take}
 use Rattle.octets.specs.Number.{big}
 use Rattle.nearness.specs.Bits.{sharedBits}
-use Rattle.reserve.specs.Record.{bucketIn, indexIn, timeIn, addressIn}
-use Rattle.reserve.specs.Layout.{markIn, versionIn, stateIn, startingIn, depthIn, capacityIn, countIn}
+use Rattle.records.specs.Record.{bucketIn, indexIn, timeIn, addressIn}
+use Rattle.book.specs.Layout.{markIn, versionIn, stateIn, startingIn, depthIn, capacityIn, countIn}
 use Rattle.listing.specs.Field.{decimal, hex}
 
 abbrev pub space : ℕ

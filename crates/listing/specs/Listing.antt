@@ -4,8 +4,8 @@ use mathlib.Core.List.{List, [], _∷_, _++_}
 use Prim.Native.Nat.{ℕ}
 use lib.Dec.{ltb}
 use lib.ListN.{length}
-use Rattle.reserve.specs.Layout.{overlayIn, recordsIn}
-use Rattle.reserve.specs.Check.{wellFormed}
+use Rattle.book.specs.Layout.{overlayIn, recordsIn}
+use Rattle.wellformed.specs.Check.{wellFormed}
 use Rattle.listing.specs.Line.{line, headerLine, recordLines}
 
 -- `too large`

@@ -8,9 +8,9 @@ use Rattle.octets.specs.Order.{byteOrder}
 use Rattle.octets.specs.Pieces.{pieces}
 use Rattle.nearness.specs.Bits.{bits, bitsOf, leadingEqual, sharedBits}
 use Rattle.settling.specs.Book.{good}
-use Rattle.reserve.specs.Layout.{laid}
-use Rattle.reserve.specs.Check.{labelled, sized, levelled, stands, allStand, rises, zeros, wellFormed}
-use Rattle.reserve.specs.Book.{write}
+use Rattle.book.specs.Layout.{laid}
+use Rattle.wellformed.specs.Check.{labelled, sized, levelled, stands, allStand, rises, zeros, wellFormed}
+use Rattle.book.specs.Book.{write}
 use Rattle.listing.specs.Field.{digit, digits, decimal, hex}
 use Rattle.listing.specs.Line.{line, stateWord, headerLine, recordLine, recordLines}
 use Rattle.listing.specs.Listing.{listing, printed}

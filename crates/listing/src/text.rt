@@ -2,15 +2,15 @@
 use crate::field::put_field;
 use crate::line::put_header;
 use crate::line::put_records;
-use reserve::check::BookAnswer;
-use reserve::check::check_book;
-use reserve::header::count;
+use book::header::count;
+use wellformed::check::BookAnswer;
+use wellformed::check::check_book;
 ghost use mathlib.Core.Path.{_≡_};
 ghost use mathlib.Core.Bool.{true};
 ghost use Prim.Native.Nat.{_≤_};
 ghost use lib.ListN.{length};
 ghost use Rattle.octets.specs.Moving.{over};
-ghost use Rattle.reserve.specs.Check.{wellFormed};
+ghost use Rattle.wellformed.specs.Check.{wellFormed};
 ghost use Rattle.listing.specs.Listing.{listing, printed};
 ghost use Rattle.listing.specs.Put.{Put};
 

@@ -12,9 +12,9 @@ use Rattle.chunk.specs.Proof.{proofOf}
 use Rattle.nearness.specs.Near.{nearnessOf}
 use Rattle.postage.specs.Digest.{stampDigest}
 use Rattle.postage.specs.Rules.{stampNumber, checked as stampChecked}
-use Rattle.reserve.specs.Open.{openAnswer, openBytes, openNumber}
-use Rattle.reserve.specs.Check.{checked as bookChecked, bookNumber}
-use Rattle.reserve.specs.Choice.{choice}
+use Rattle.opening.specs.Open.{openAnswer, openBytes, openNumber}
+use Rattle.wellformed.specs.Check.{checked as bookChecked, bookNumber}
+use Rattle.records.specs.Choice.{choice}
 use Rattle.reserve.specs.Offer.{Ended, offered}
 use Rattle.draw.specs.Draw.{drawn, sampleAfter}
 use Rattle.ramekinfold.specs.declared.hashing.Digested.{Digested}

@@ -1,7 +1,7 @@
 -- A stretch of a lent buffer.
 use Prim.Native.Nat.{ℕ}
-use Rattle.reserve.specs.declared.rank.Choice.{Choice}
-use Rattle.reserve.specs.declared.rank.Choice.the-variants.{First, Second, Neither}
+use Rattle.records.specs.declared.rank.Choice.{Choice}
+use Rattle.records.specs.declared.rank.Choice.the-variants.{First, Second, Neither}
 use Rattle.ramekinfold.specs.declared.chunks.Part.{Part}
 
 abbrev pub part : ℕ → ℕ → Part

@@ -12,17 +12,17 @@ use Rattle.postage.specs.declared.rules.StampAnswer.{StampAnswer}
 use Rattle.postage.specs.declared.rules.StampAnswer.the-variants.{Passes, BadList, WrongLength, NoBatch, OtherBucket, IndexPast, NotOwner}
 use Rattle.postage.specs.Rules.{stampNumber, checked}
 use Rattle.settling.specs.Meaning.{Given, kept, dropped, bursts, already, outside, very, outranked}
-use Rattle.reserve.specs.declared.open.OpenAnswer.{OpenAnswer}
-use Rattle.reserve.specs.declared.open.OpenAnswer.the-variants as Opening
-use Rattle.reserve.specs.Open.{openAnswer, openBytes, openNumber}
-use Rattle.reserve.specs.Determined.{open-refused}
-use Rattle.reserve.specs.Book.{read}
-use Rattle.reserve.specs.Record.{recordOf}
+use Rattle.opening.specs.declared.open.OpenAnswer.{OpenAnswer}
+use Rattle.opening.specs.declared.open.OpenAnswer.the-variants as Opening
+use Rattle.opening.specs.Open.{openAnswer, openBytes, openNumber}
+use Rattle.opening.specs.Determined.{open-refused}
+use Rattle.book.specs.Book.{read}
+use Rattle.records.specs.Record.{recordOf}
 use Rattle.reserve.specs.Stamps.{stampAnswer}
 use Rattle.reserve.specs.Offer.{shapeOf}
-use Rattle.reserve.specs.Histories.{Offer, ByteOffer, answer, after}
-use Rattle.reserve.specs.Theorems.{Table, not-well-formed, already-overfull, stamp-refused, settles}
-use Rattle.reserve.proofs.Theorems.{answers, refused-changes-nothing}
+use Rattle.histories.specs.Histories.{Offer, ByteOffer, answer, after}
+use Rattle.histories.specs.Theorems.{Table, not-well-formed, already-overfull, stamp-refused, settles}
+use Rattle.histories.proofs.Theorems.{answers, refused-changes-nothing}
 use Rattle.draw.specs.Draw.{drawn, sampleAfter}
 use Rattle.draw.specs.Refused.{draw-refused}
 use Rattle.ramekinfold.specs.declared.draws.Drawn.{Drawn}

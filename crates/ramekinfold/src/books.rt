@@ -1,10 +1,10 @@
 // Books: opened, checked, and offered to; and the higher of two records.
 use crate::chunks::Part;
-use reserve::rank::Choice;
+use records::rank::Choice;
 ghost use mathlib.Core.Path.{_≡_};
-ghost use Rattle.reserve.specs.Open.{openAnswer, openBytes, openNumber};
-ghost use Rattle.reserve.specs.Check.{checked, bookNumber};
-ghost use Rattle.reserve.specs.Choice.{choice};
+ghost use Rattle.opening.specs.Open.{openAnswer, openBytes, openNumber};
+ghost use Rattle.wellformed.specs.Check.{checked, bookNumber};
+ghost use Rattle.records.specs.Choice.{choice};
 ghost use Rattle.reserve.specs.Offer.{offered};
 ghost use Rattle.ramekinfold.specs.Part.{ofChoice};
 
@@ -18,7 +18,7 @@ pub extern "C" fn rkf_open(
     ensures { λ r. ⌜ r ≡ openNumber (openAnswer (now (book .entry)) (now (overlay .entry)) capacity «starting_depth») ⌝ }
     ensures { λ _. ⌜ now (book .exit) ≡ openBytes (now (book .entry)) (now (overlay .entry)) capacity «starting_depth» ⌝ }
 {
-    let answer = reserve::open::open(book, overlay, capacity, starting_depth);
+    let answer = opening::open::open(book, overlay, capacity, starting_depth);
     answer.number()
 }
 
@@ -26,7 +26,7 @@ pub extern "C" fn rkf_open(
 pub extern "C" fn rkf_check_book(book: &[u8]) -> u32
     ensures { λ r. ⌜ r ≡ bookNumber (checked (now (book .entry))) ⌝ }
 {
-    let answer = reserve::check::check_book(book);
+    let answer = wellformed::check::check_book(book);
     answer.number()
 }
 
@@ -35,7 +35,7 @@ pub extern "C" fn rkf_check_book(book: &[u8]) -> u32
 pub extern "C" fn rkf_higher(first: &[u8], second: &[u8]) -> Part
     ensures { λ r. ⌜ r ≡ ofChoice (choice (now (first .entry)) (now (second .entry))) ⌝ }
 {
-    match reserve::rank::choose(first, second) {
+    match records::rank::choose(first, second) {
         Choice::First => Part {
             start: 0,
             length: 145,

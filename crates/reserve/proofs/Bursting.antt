@@ -9,11 +9,12 @@ use Rattle.octets.specs.Moving.{over, placed}
 use Rattle.octets.proofs.Numbers.{length-bytesOf}
 use Rattle.octets.proofs.Edits.{placed-fits, length-placed}
 use Rattle.settling.specs.Book.{overfull}
-use Rattle.reserve.specs.Layout.{laid}
-use Rattle.reserve.specs.Book.{Book, inState, write}
+use Rattle.book.specs.Layout.{laid}
+use Rattle.book.specs.Book.{Book, inState, write}
 use Rattle.reserve.specs.Edit.{Stands}
-use Rattle.reserve.proofs.Laid.{length-laid}
-use Rattle.reserve.proofs.Headed.{header, length-header, set-flag, set-depth, over-count, over-middle, zeros, write-overfull, stands-bytes, stands-length}
+use Rattle.book.proofs.Laid.{length-laid}
+use Rattle.book.proofs.Headed.{header, length-header, set-flag, set-depth, over-count, over-middle, zeros, write-overfull}
+use Rattle.reserve.proofs.Standing.{stands-bytes, stands-length}
 
 module _ (s t u : List ℕ) (n : ℕ) (et : t ≡ placed (set (set s 5 1) 7 16) 44 (bytesOf 4 0)) (eu : u ≡ placed t 48 (replicate n 0)) where
   pub same-size : length u ≡ length s

@@ -15,10 +15,10 @@ use Rattle.nearness.proofs.Shared.{shared-bits-most}
 use Rattle.settling.specs.Rank.{Shape}
 use Rattle.settling.specs.Tally.{reach, tally}
 use Rattle.settling.proofs.Counters.{Counters, reach-is, counters-cons, counters-next}
-use Rattle.reserve.specs.Record.{slot, nearOf}
-use Rattle.reserve.specs.Layout.{overlayIn}
-use Rattle.reserve.specs.Shape.{shapeIn}
-use Rattle.reserve.proofs.Cuts.{record-there}
+use Rattle.records.specs.Record.{slot, nearOf}
+use Rattle.book.specs.Layout.{overlayIn}
+use Rattle.book.specs.Shape.{shapeIn}
+use Rattle.book.proofs.Cuts.{record-there}
 
 pub near-most : (o : List ℕ) (k n : ℕ) → n ≡ nearOf o k → n ≤ 16
 unfolding nearOf

@@ -1,109 +1,86 @@
 -- One law for each way that a record enters a good book, or does not.
-use mathlib.Core.Path.{_≡_, sym, ap, _∙_}
-use mathlib.Core.Bool.{true}
+use mathlib.Core.Path.{_≡_, sym, _∙_}
+use mathlib.Core.Bool.{true, false}
 use mathlib.Core.Logic.{⊎-elim}
 use mathlib.Core.List.{List, [], _∷_, _++_}
 use Prim.Native.Nat.{ℕ, _+_, _-_, _*_, _≤_, _<_}
 use native.Mathlib.Omega.{arith}
 use lib.ListN.{length, getD, take, drop, set}
-use lib.Seq.{take-all, length-take-le}
+use lib.Seq.{take-all}
 use native.Mathlib.Nat.{le-refl, eq-or-lt-of-le}
-use Rattle.octets.specs.declared.order.Order.the-variants.{Less, Same, More}
-use Rattle.octets.specs.Order.{byteOrder, turned, isLess}
-use Rattle.octets.specs.Number.{big}
-use Rattle.octets.proofs.Bytes.{bytes-take}
-use Rattle.octets.proofs.Numbers.{big-injective}
-use Rattle.octets.proofs.Ordered.{order-self, same-equal}
 use Rattle.settling.specs.Book.{good}
 use Rattle.settling.proofs.Places.{each-at}
 use Rattle.settling.proofs.Steps.{step-far, step-very, step-lower, step-replaced, step-added}
-use Rattle.reserve.specs.Record.{slot, nearOf, Fitting}
-use Rattle.reserve.specs.Rank.{rankOrder, beats}
-use Rattle.reserve.specs.Order.{rank-same, rank-turned}
-use Rattle.reserve.specs.Shape.{shapeIn}
-use Rattle.reserve.specs.Layout.{depthIn, overlayIn, capacityIn, countIn, recordsIn}
-use Rattle.reserve.specs.Book.{read}
+use Rattle.records.specs.Record.{slot, nearOf, Fitting}
+use Rattle.records.specs.Rank.{beats}
+use Rattle.records.specs.Order.{ranked}
+use Rattle.records.specs.Choice.{choice}
+use Rattle.records.specs.declared.rank.Choice.the-variants.{First, Second, Neither}
+use Rattle.records.proofs.Ranks.{first-says, second-says, neither-says}
+use Rattle.book.specs.Shape.{shapeIn}
+use Rattle.book.specs.Layout.{depthIn, overlayIn, capacityIn, countIn, recordsIn}
+use Rattle.book.specs.Book.{read}
 use Rattle.reserve.specs.Edit.{Stands}
-use Rattle.reserve.specs.Awaits.{Awaits, AwaitsAt, Contested, Free, Ends}
-use Rattle.reserve.proofs.Cuts.{counted, record-part}
+use Rattle.reserve.specs.Awaits.{Awaits, AwaitsAt, Free, Ends}
+use Rattle.book.proofs.Cuts.{counted, record-part}
 use Rattle.reserve.proofs.Steps.{kept, ends, ends-same}
-
-beats-less : (a b : List ℕ) → rankOrder a b ≡ Less → beats a b ≡ true
-unfolding beats
-beats-less a b e = ap isLess e
-
-beats-more : (a b : List ℕ) → rankOrder a b ≡ More → beats b a ≡ true
-beats-more a b e = beats-less b a (rank-turned a b ∙ ap turned e)
 
 -- shared bits below depth
 pub lies-outside : (s r : List ℕ) → Awaits s r → nearOf (overlayIn s) (slot r) < depthIn s → Ends s r 20 s
 lies-outside s r w h = ends-same s r w 20 (step-far (shapeIn s) (depthIn s) (recordsIn s) r h)
 
--- the slot there, as code compares it
+-- a record stands at the place
 module _ (s r : List ℕ) (i : ℕ) (w : AwaitsAt s r i) (h : i < countIn s) where
-  abbrev found : List ℕ
-  found = take (48 + 145 * i + 40 - (48 + 145 * i)) (drop (48 + 145 * i) s)
-
-  found-slot : found ≡ take 40 (getD (recordsIn s) i [])
-  found-slot = record-part s (countIn s) i 40 h (omega arith)
-
-  pub same-slots : byteOrder (take (48 + 145 * i + 40 - (48 + 145 * i)) (drop (48 + 145 * i) s)) (take 40 r) ≡ Same → slot (getD (recordsIn s) i []) ≡ slot r
-  same-slots e = ap big (sym found-slot ∙ same-equal found (take 40 r) e)
-
-  pub other-slots : (byteOrder (take (48 + 145 * i + 40 - (48 + 145 * i)) (drop (48 + 145 * i) s)) (take 40 r) ≡ Same → ⊥) → slot r < slot (getD (recordsIn s) i [])
-  other-slots e =
-      let there : i < length (recordsIn s) = omega (arith, counted s, h) in
-      let held = getD (recordsIn s) i [] in
-      let fit : Fitting held = each-at [] Fitting (recordsIn s) i (w .awaits .formed .fitting) there in
-      let least : slot r ≤ slot held = w .place .upper i (le-refl i) there in
-      let long : length (take 40 r) ≡ length (take 40 held) = length-take-le 40 r (omega (arith, w .awaits .fits .size)) ∙ sym (length-take-le 40 held (omega (arith, fit .size))) in
-      let apart : slot r ≡ slot held → ⊥ =
-      λ q. e (ap (λ (x : List ℕ). byteOrder x (take 40 r)) (found-slot ∙ sym (big-injective (take 40 r) (take 40 held) long (bytes-take 40 r (w .awaits .fits .bytes)) (bytes-take 40 held (fit .bytes)) q)) ∙ order-self (take 40 r)) in
-      ⊎-elim (λ q. absurd (apart q)) (λ q. q) (eq-or-lt-of-le least)
-
--- the slot is held
-module _ (s r : List ℕ) (i : ℕ) (w : Contested s r i) where
   abbrev held : List ℕ
   held = getD (recordsIn s) i []
 
-  awaits : Awaits s r
-  awaits = w .at .awaits
-
   there : i < length (recordsIn s)
-  there = omega (arith, counted s, w .there)
+  there = omega (arith, counted s, h)
 
   held-fits : Fitting held
-  held-fits = each-at [] Fitting (recordsIn s) i (awaits .formed .fitting) there
+  held-fits = each-at [] Fitting (recordsIn s) i (w .awaits .formed .fitting) there
 
-  -- the record there, as code takes it
+  -- as code takes it
   pub held-part : take (48 + 145 * i + 145 - (48 + 145 * i)) (drop (48 + 145 * i) s) ≡ getD (recordsIn s) i []
-  held-part = record-part s (countIn s) i 145 (w .there) (omega arith) ∙ take-all 145 held (omega (arith, held-fits .size))
+  held-part = record-part s (countIn s) i 145 h (omega arith) ∙ take-all 145 held (omega (arith, held-fits .size))
 
   pub held-there : 48 + 145 * (i + 1) ≤ length s
-  held-there = omega (arith, w .there, awaits .formed .count, awaits .formed .size)
-
-  pub held-size : length (getD (recordsIn s) i []) ≡ 145
-  held-size = held-fits .size
+  held-there = omega (arith, h, w .awaits .formed .count, w .awaits .formed .size)
 
   pub given-size : length r ≡ 145
-  given-size = awaits .fits .size
+  given-size = w .awaits .fits .size
 
-  pub held-slot : take 40 r ≡ take 40 (getD (recordsIn s) i [])
-  held-slot =
-      let long : length (take 40 r) ≡ length (take 40 held) = length-take-le 40 r (omega (arith, given-size)) ∙ sym (length-take-le 40 held (omega (arith, held-size))) in
-      big-injective (take 40 r) (take 40 held) long (bytes-take 40 r (awaits .fits .bytes)) (bytes-take 40 held (held-fits .bytes)) (sym (w .same-slot))
+  -- of another slot, which is above
+  pub other-slot : choice (getD (recordsIn s) i []) r ≡ Neither → slot r < slot (getD (recordsIn s) i [])
+  other-slot e =
+      let least : slot r ≤ slot held = w .place .upper i (le-refl i) there in
+      ⊎-elim (λ q. absurd (neither-says held r (held-fits .size) given-size e (sym q))) (λ q. q) (eq-or-lt-of-le least)
 
-  pub stays-lower : rankOrder r (getD (recordsIn s) i []) ≡ More → Ends s r 22 s
-  stays-lower e = ends-same s r awaits 22 (step-lower (shapeIn s) [] (depthIn s) (recordsIn s) r i (kept s r awaits) (w .at .inside) (w .at .place) there (w .same-slot) (beats-more r held e))
-
-  pub stays-very : rankOrder r (getD (recordsIn s) i []) ≡ Same → Ends s r 21 s
-  stays-very e = ends-same s r awaits 21 (step-very (shapeIn s) [] (depthIn s) (recordsIn s) r i (kept s r awaits) (w .at .inside) (w .at .place) there (w .same-slot) (sym (rank-same r held e)))
-
-  pub replaces : rankOrder r (getD (recordsIn s) i []) ≡ Less → (t : List ℕ) → Stands t (read s) (depthIn s) (set (recordsIn s) i r) → Ends s r 0 t
+  -- or of its own
+  pub replaces : choice (getD (recordsIn s) i []) r ≡ Second → (t : List ℕ) → Stands t (read s) (depthIn s) (set (recordsIn s) i r) → Ends s r 0 t
   replaces e t u =
-      ends s r awaits (good (depthIn s) (set (recordsIn s) i r)) 0
-      (step-replaced (shapeIn s) [] (depthIn s) (recordsIn s) r i (kept s r awaits) (w .at .inside) (w .at .place) there (w .same-slot) (beats-less r held e))
+      let p = second-says held r (held-fits .size) given-size e in
+      ends s r (w .awaits) (good (depthIn s) (set (recordsIn s) i r)) 0
+      (step-replaced (shapeIn s) [] (depthIn s) (recordsIn s) r i (kept s r (w .awaits)) (w .inside) (w .place) there (p .0) (p .1))
       t (u .bytes)
+
+  -- or of its own, and not of a lower rank
+  module _ (f : choice (getD (recordsIn s) i []) r ≡ First) where
+    unbeaten : (slot held ≡ slot r) × (beats r held ≡ false)
+    unbeaten = first-says held r (held-fits .size) given-size f
+
+    pub stays-very : choice r (getD (recordsIn s) i []) ≡ First → Ends s r 21 s
+    stays-very e =
+        let very : held ≡ r = ranked .total held r (unbeaten .0) (first-says r held given-size (held-fits .size) e .1) (unbeaten .1) in
+        ends-same s r (w .awaits) 21 (step-very (shapeIn s) [] (depthIn s) (recordsIn s) r i (kept s r (w .awaits)) (w .inside) (w .place) there (unbeaten .0) very)
+
+    pub stays-higher : choice r (getD (recordsIn s) i []) ≡ Second → Ends s r 22 s
+    stays-higher e =
+        let higher : beats held r ≡ true = second-says r held given-size (held-fits .size) e .1 in
+        ends-same s r (w .awaits) 22 (step-lower (shapeIn s) [] (depthIn s) (recordsIn s) r i (kept s r (w .awaits)) (w .inside) (w .place) there (unbeaten .0) higher)
+
+    pub never-neither : choice r (getD (recordsIn s) i []) ≡ Neither → ⊥
+    never-neither e = neither-says r held given-size (held-fits .size) e (sym (unbeaten .0))
 
 -- the slot is empty
 module _ (s r : List ℕ) (i : ℕ) (w : Free s r i) where

@@ -13,10 +13,10 @@ use Rattle.octets.proofs.Bytes.{bytes-take}
 use Rattle.octets.proofs.Ordered.{compared, number-less, less-number, order-number}
 use Rattle.settling.specs.Meaning.{Ascending}
 use Rattle.settling.proofs.Places.{Halving, each-at, halving-up, halving-down}
-use Rattle.reserve.specs.Record.{slot, Fitting}
-use Rattle.reserve.specs.Shape.{shapeIn}
-use Rattle.reserve.specs.Layout.{overlayIn, capacityIn, recordsIn, WellFormed}
-use Rattle.reserve.proofs.Slots.{rising-ascending}
+use Rattle.records.specs.Record.{slot, Fitting}
+use Rattle.book.specs.Shape.{shapeIn}
+use Rattle.book.specs.Layout.{overlayIn, capacityIn, recordsIn, WellFormed}
+use Rattle.book.proofs.Slots.{rising-ascending}
 
 -- the bounds of a search among the records of a book
 abbrev pub Between : List ℕ → ℕ → ℕ → ℕ → Type 0

@@ -13,13 +13,14 @@ use Rattle.octets.proofs.Numbers.{length-bytesOf}
 use Rattle.octets.proofs.Edits.{placed-fits, length-placed}
 use Rattle.settling.specs.Book.{inside}
 use Rattle.settling.proofs.Inside.{inside-less, each-inside}
-use Rattle.reserve.specs.Shape.{shape, shapeIn}
-use Rattle.reserve.specs.Layout.{laid}
-use Rattle.reserve.specs.Book.{Book}
+use Rattle.book.specs.Shape.{shape, shapeIn}
+use Rattle.book.specs.Layout.{laid}
+use Rattle.book.specs.Book.{Book}
 use Rattle.reserve.specs.Edit.{Stands}
 use Rattle.reserve.specs.Rise.{insideIn, Packed, KeptInside}
-use Rattle.reserve.proofs.Laid.{Sized, length-laid}
-use Rattle.reserve.proofs.Headed.{set-depth, over-count, head, zeros, write-good, stands-bytes, stands-head, stands-length, stands-overlay, stands-capacity, stands-records}
+use Rattle.book.proofs.Laid.{Sized, length-laid}
+use Rattle.book.proofs.Headed.{set-depth, over-count, head, zeros, write-good}
+use Rattle.reserve.proofs.Standing.{stands-bytes, stands-head, stands-length, stands-overlay, stands-capacity, stands-records}
 use Rattle.reserve.proofs.Stored.{drop-behind}
 
 -- the stores keep the length

@@ -12,12 +12,12 @@ use Rattle.octets.proofs.Pieces.{length-pieces}
 use Rattle.settling.specs.Book.{inside}
 use Rattle.settling.proofs.Inside.{inside-nil}
 use Rattle.settling.proofs.Places.{inside-next-in, inside-next-out}
-use Rattle.reserve.specs.Record.{slot, nearOf}
-use Rattle.reserve.specs.Layout.{overlayIn, laid}
-use Rattle.reserve.specs.Shape.{shapeIn}
+use Rattle.records.specs.Record.{slot, nearOf}
+use Rattle.book.specs.Layout.{overlayIn, laid}
+use Rattle.book.specs.Shape.{shapeIn}
 use Rattle.reserve.specs.Rise.{insideIn, Packed}
-use Rattle.reserve.proofs.Laid.{laid-nil, laid-one, laid-append}
-use Rattle.reserve.proofs.Cuts.{record-there}
+use Rattle.book.proofs.Laid.{laid-nil, laid-one, laid-append}
+use Rattle.book.proofs.Cuts.{record-there}
 
 -- up to the end of what is written
 pub over-front : (s : List ℕ) (at : ℕ) (v : List ℕ) (n : ℕ) → n ≡ at + length v → at ≤ length s → take n (over s at v) ≡ take at s ++ v

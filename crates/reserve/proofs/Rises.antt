@@ -13,15 +13,15 @@ use Rattle.settling.proofs.Counters.{Counters, reach-is}
 use Rattle.settling.proofs.Least.{Counted, fits-at, fits-nowhere}
 use Rattle.settling.proofs.Least as least-laws
 use Rattle.settling.proofs.Steps.{step-bursts, step-dropped, step-risen}
-use Rattle.reserve.specs.Record.{slot, nearOf}
-use Rattle.reserve.specs.Shape.{shapeIn}
-use Rattle.reserve.specs.Layout.{depthIn, overlayIn, capacityIn, countIn, recordsIn}
-use Rattle.reserve.specs.Book.{inState, read, write}
+use Rattle.records.specs.Record.{slot, nearOf}
+use Rattle.book.specs.Shape.{shapeIn}
+use Rattle.book.specs.Layout.{depthIn, overlayIn, capacityIn, countIn, recordsIn}
+use Rattle.book.specs.Book.{inState, read, write}
 use Rattle.reserve.specs.Edit.{Stands}
 use Rattle.reserve.specs.Awaits.{Awaits, Free, Ends}
-use Rattle.reserve.proofs.Slots.{near-slot}
+use Rattle.book.proofs.Slots.{near-slot}
 use Rattle.reserve.proofs.Steps.{kept, ends}
-use Rattle.reserve.proofs.Cuts.{counted}
+use Rattle.book.proofs.Cuts.{counted}
 use Rattle.reserve.proofs.Enters.{free-there}
 
 pub kept-less : (s : List ℕ) (e i : ℕ) → length (inside (shapeIn s) e (take i (recordsIn s))) ≤ length (inside (shapeIn s) e (recordsIn s))

@@ -17,9 +17,9 @@ use Rattle.postage.specs.declared.rules.StampAnswer.the-variants.{Passes, BadLi
 use Rattle.postage.specs.Rules.{stampNumber, checked}
 use Rattle.postage.proofs.Theorems.{passing-is-bucketed, passing-index}
 use Rattle.postage.proofs.InOrder.{in-order}
-use Rattle.reserve.specs.Record.{addressIn, recordOf, Fitting}
+use Rattle.records.specs.Record.{addressIn, recordOf, Fitting}
 use Rattle.reserve.specs.Stamps.{stampAnswer}
-use Rattle.reserve.proofs.Headed.{over-middle}
+use Rattle.book.proofs.Headed.{over-middle}
 
 in-range : (a : StampAnswer) → (stampNumber a ≡ 0) ⊎ ((10 ≤ stampNumber a) × (stampNumber a ≤ 19))
 in-range Passes = inl refl

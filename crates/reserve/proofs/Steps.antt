@@ -11,16 +11,16 @@ use Rattle.settling.specs.Answer.{outcome}
 use Rattle.settling.specs.Meaning.{Kept, Sound}
 use Rattle.settling.proofs.Inside.{each-map}
 use Rattle.settling.proofs.Steps.{Step}
-use Rattle.reserve.specs.Record.{Fitting}
-use Rattle.reserve.specs.Shape.{shapeIn}
-use Rattle.reserve.specs.Layout.{depthIn, capacityIn, recordsIn}
-use Rattle.reserve.specs.Book.{inState, read, write}
+use Rattle.records.specs.Record.{Fitting}
+use Rattle.book.specs.Shape.{shapeIn}
+use Rattle.book.specs.Layout.{depthIn, capacityIn, recordsIn}
+use Rattle.book.specs.Book.{inState, read, write}
 use Rattle.reserve.specs.Edit.{Stands}
 use Rattle.reserve.specs.Offer.{shapeOf, entered}
 use Rattle.reserve.specs.Awaits.{Awaits, Ends}
-use Rattle.reserve.proofs.Cuts.{counted}
-use Rattle.reserve.proofs.Soundness.{lawful-sound}
-use Rattle.reserve.proofs.Roundtrip.{read-good, read-lawful, write-read}
+use Rattle.book.proofs.Cuts.{counted}
+use Rattle.book.proofs.Soundness.{lawful-sound}
+use Rattle.book.proofs.Roundtrip.{read-good, read-lawful, write-read}
 
 module _ (s r : List ℕ) (w : Awaits s r) where
   pub kept : Kept (shapeIn s) (depthIn s) (recordsIn s)

@@ -10,11 +10,12 @@ use Rattle.octets.specs.Moving.{over, placed, inserted}
 use Rattle.octets.proofs.Numbers.{length-bytesOf}
 use Rattle.octets.proofs.Edits.{placed-fits, inserted-fits, length-inserted}
 use Rattle.settling.specs.Meaning.{Each}
-use Rattle.reserve.specs.Layout.{laid}
-use Rattle.reserve.specs.Book.{Book}
+use Rattle.book.specs.Layout.{laid}
+use Rattle.book.specs.Book.{Book}
 use Rattle.reserve.specs.Edit.{Stands}
-use Rattle.reserve.proofs.Laid.{Sized, each-append, each-take, each-drop, each-set, laid-append, laid-cons, length-laid, take-laid, drop-laid}
-use Rattle.reserve.proofs.Headed.{over-count, head, zeros, write-good, stands-bytes, stands-head, stands-length}
+use Rattle.book.proofs.Laid.{Sized, each-append, each-take, each-drop, each-set, laid-append, laid-cons, length-laid, take-laid, drop-laid}
+use Rattle.book.proofs.Headed.{over-count, head, zeros, write-good}
+use Rattle.reserve.proofs.Standing.{stands-bytes, stands-head, stands-length}
 
 -- behind a header of 48 bytes
 module _ (h m : List ℕ) (e : length h ≡ 48) (k : ℕ) where

@@ -1,6 +1,6 @@
 -- The ways that an offer to any bytes can go: one equation each.
-use mathlib.Core.Path.{_≡_, refl, sym, ap, _∙_}
-use mathlib.Core.Bool.{Bool, true, false, cond, false≢true}
+use mathlib.Core.Path.{_≡_, refl, sym, _∙_}
+use mathlib.Core.Bool.{Bool, true, false, false≢true}
 use mathlib.Core.Logic.{_⊎_, inl, inr}
 use mathlib.Core.List.{List}
 use Prim.Native.Nat.{ℕ, zero, suc, _≤_}
@@ -8,29 +8,14 @@ use native.Mathlib.Omega.{arith}
 use lib.Dec.{eqb}
 use borrow.Author.Tests.{eq-eqb, ne-eqb}
 use Rattle.octets.specs.Bytes.{Bytes}
-use Rattle.reserve.specs.Record.{recordOf}
-use Rattle.reserve.specs.Layout.{stateIn, WellFormed}
-use Rattle.reserve.specs.Book.{read}
-use Rattle.reserve.specs.declared.check.BookAnswer.{BookAnswer}
-use Rattle.reserve.specs.declared.check.BookAnswer.the-variants.{WellFormed as Formed, NotWellFormed}
-use Rattle.reserve.specs.Check.{wellFormed, checked}
+use Rattle.records.specs.Record.{recordOf}
+use Rattle.book.specs.Layout.{stateIn, WellFormed}
+use Rattle.book.specs.Book.{read}
+use Rattle.wellformed.specs.Check.{wellFormed}
 use Rattle.reserve.specs.Stamps.{stampAnswer}
 use Rattle.reserve.specs.Offer.{refused, entered, offered}
-use Rattle.reserve.proofs.Tested.{said as untested, heard as tested}
+use Rattle.wellformed.proofs.Tested.{said as untested, heard as tested}
 use Rattle.reserve.proofs.Stamped.{stamp-range}
-
--- the check's verdict, as the truth that it tells
-abbrev pub isFormed : BookAnswer → Bool
-isFormed Formed = true
-isFormed NotWellFormed = false
-
-pub formed-as : (s : List ℕ) {a : BookAnswer} → checked s ≡ a → wellFormed s ≡ isFormed a
-unfolding checked
-formed-as s e = go (wellFormed s) ∙ ap isFormed e
-  where
-    go : (b : Bool) → b ≡ isFormed (cond b Formed NotWellFormed)
-    go true = refl
-    go false = refl
 
 -- a good book's state
 pub is-good : (s : List ℕ) → WellFormed s → (stateIn s ≡ 1 → ⊥) → stateIn s ≡ 0

@@ -4,10 +4,12 @@ use mathlib.Core.List.{List, []}
 use Prim.Native.Nat.{ℕ, _≤_, _<_}
 use lib.ListN.{getD}
 use Rattle.octets.specs.Bytes.{Bytes}
-use Rattle.reserve.specs.Record.{slot, nearOf, Fitting}
-use Rattle.reserve.specs.Layout.{stateIn, depthIn, overlayIn, countIn, recordsIn, WellFormed}
+use Rattle.records.specs.Record.{slot, nearOf, Fitting}
+use Rattle.records.specs.Choice.{choice}
+use Rattle.records.specs.declared.rank.Choice.the-variants.{First}
+use Rattle.book.specs.Layout.{stateIn, depthIn, overlayIn, countIn, recordsIn, WellFormed}
 use Rattle.reserve.specs.Place.{PlaceIn}
-use Rattle.reserve.specs.Book.{read}
+use Rattle.book.specs.Book.{read}
 use Rattle.reserve.specs.Offer.{entered}
 
 -- a good book, and a record that passed the stamp's checks
@@ -23,11 +25,11 @@ pub record AwaitsAt (s r : List ℕ) (i : ℕ) : Type 0 where
   pub inside : depthIn s ≤ nearOf (overlayIn s) (slot r)
   pub place : PlaceIn s (slot r) i
 
--- there the slot is held
-pub record Contested (s r : List ℕ) (i : ℕ) : Type 0 where
+-- there the slot is held, by a record that ranks not lower
+pub record Unbeaten (s r : List ℕ) (i : ℕ) : Type 0 where
   pub at : AwaitsAt s r i
   pub there : i < countIn s
-  pub same-slot : slot (getD (recordsIn s) i []) ≡ slot r
+  pub first : choice (getD (recordsIn s) i []) r ≡ First
 
 -- or no record holds it
 pub record Free (s r : List ℕ) (i : ℕ) : Type 0 where

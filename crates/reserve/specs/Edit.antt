@@ -5,7 +5,7 @@ use Prim.Native.Nat.{ℕ, _≤_}
 use lib.ListN.{length}
 use Rattle.settling.specs.Book.{good}
 use Rattle.settling.specs.Meaning.{Each}
-use Rattle.reserve.specs.Book.{Book, inState, write}
+use Rattle.book.specs.Book.{Book, inState, write}
 
 -- s are the bytes of b, good at depth d with the records l; each part has the length of its place
 pub record Stands (s : List ℕ) (b : Book) (d : ℕ) (l : List (List ℕ)) : Type 0 where

@@ -6,11 +6,11 @@ use lib.Dec.{eqb}
 use Rattle.settling.specs.Rank.{Shape}
 use Rattle.settling.specs.Book as settling
 use Rattle.settling.specs.Answer.{outcome}
-use Rattle.reserve.specs.Record.{recordOf}
-use Rattle.reserve.specs.Shape.{shape}
-use Rattle.reserve.specs.Layout.{stateIn}
-use Rattle.reserve.specs.Book.{Book, inState, read, write}
-use Rattle.reserve.specs.Check.{wellFormed}
+use Rattle.records.specs.Record.{recordOf}
+use Rattle.book.specs.Shape.{shape}
+use Rattle.book.specs.Layout.{stateIn}
+use Rattle.book.specs.Book.{Book, inState, read, write}
+use Rattle.wellformed.specs.Check.{wellFormed}
 use Rattle.reserve.specs.Stamps.{stampAnswer}
 
 -- the number handed back, and the book's bytes afterwards

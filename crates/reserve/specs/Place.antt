@@ -2,8 +2,8 @@
 use mathlib.Core.List.{List, []}
 use Prim.Native.Nat.{ℕ}
 use Rattle.settling.proofs.Places.{Place}
-use Rattle.reserve.specs.Shape.{shapeIn}
-use Rattle.reserve.specs.Layout.{recordsIn}
+use Rattle.book.specs.Shape.{shapeIn}
+use Rattle.book.specs.Layout.{recordsIn}
 
 -- the records before place i have lower slots than k, those from i on do not
 abbrev pub PlaceIn : List ℕ → ℕ → ℕ → Type 0

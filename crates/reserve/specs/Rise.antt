@@ -5,9 +5,9 @@ use Prim.Native.Nat.{ℕ, _+_, _*_}
 use lib.ListN.{length, take, drop}
 use Rattle.octets.specs.Pieces.{pieces}
 use Rattle.settling.specs.Book.{inside}
-use Rattle.reserve.specs.Shape.{shape, shapeIn}
-use Rattle.reserve.specs.Layout.{laid}
-use Rattle.reserve.specs.Book.{Book}
+use Rattle.book.specs.Shape.{shape, shapeIn}
+use Rattle.book.specs.Layout.{laid}
+use Rattle.book.specs.Book.{Book}
 use Rattle.reserve.specs.Edit.{Stands}
 
 -- of the first i of `count` records of a book those inside the depth

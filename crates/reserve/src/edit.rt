@@ -8,7 +8,7 @@ ghost use mathlib.Core.Path.{_≡_};
 ghost use Prim.Native.Nat.{ℕ, _+_, _*_, _≤_, _<_};
 ghost use lib.ListN.{length, take, drop, set};
 ghost use Rattle.settling.specs.Book.{overfull};
-ghost use Rattle.reserve.specs.Book.{Book, inState, write};
+ghost use Rattle.book.specs.Book.{Book, inState, write};
 ghost use Rattle.reserve.specs.Edit.{Stands};
 
 // The record `given`, put in at place `at` among the `count` records; those from there on move up.

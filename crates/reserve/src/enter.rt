@@ -2,23 +2,22 @@
 use crate::edit::add_record;
 use crate::edit::burst;
 use crate::edit::replace_record;
-use crate::header::capacity;
-use crate::header::count;
-use crate::header::depth;
 use crate::offer::OfferAnswer;
 use crate::place::place;
-use crate::rank::rank;
 use crate::rise::keep_inside;
 use crate::rise::least_depth;
 use crate::rise::near;
 use crate::rise::tally;
-use octets::order::Order;
-use octets::order::compare;
+use book::header::capacity;
+use book::header::count;
+use book::header::depth;
+use records::rank::Choice;
+use records::rank::choose;
 ghost use mathlib.Core.Path.{_≡_};
 ghost use Prim.Native.Nat.{_≤_};
-ghost use Rattle.reserve.specs.Layout.{capacityIn, countIn};
+ghost use Rattle.book.specs.Layout.{capacityIn, countIn};
 ghost use Rattle.reserve.specs.Answer.{offerNumber};
-ghost use Rattle.reserve.specs.Awaits.{Awaits, AwaitsAt, Contested, Free, Ends};
+ghost use Rattle.reserve.specs.Awaits.{Awaits, AwaitsAt, Unbeaten, Free, Ends};
 
 // Outside the depth nothing is kept; else the record goes to its slot's place.
 pub(crate) fn enter(book: &mut [u8], given: &[u8]) -> OfferAnswer
@@ -33,7 +32,7 @@ pub(crate) fn enter(book: &mut [u8], given: &[u8]) -> OfferAnswer
     file(book, records, at, given)
 }
 
-// At its slot's place a record contests the slot or is added.
+// At its slot's place a record contests the slot, where the higher rank stays, or is added.
 fn file(book: &mut [u8], count: usize, at: usize, given: &[u8]) -> OfferAnswer
     requires { ⌜ AwaitsAt (now book) (now given) at × (count ≡ countIn (now book)) ⌝ }
     ensures { λ r. ⌜ Ends (now (book .entry)) (now (given .entry)) (offerNumber r) (now (book .exit)) ⌝ }
@@ -42,28 +41,28 @@ fn file(book: &mut [u8], count: usize, at: usize, given: &[u8]) -> OfferAnswer
         return add(book, count, at, given);
     }
     let from = 48 + 145 * at;
-    let end = from + 40;
-    match compare(&book[from..end], &given[0..40]) {
-        Order::Same => contest(book, at, given),
-        Order::Less => add(book, count, at, given),
-        Order::More => add(book, count, at, given),
-    }
-}
-
-// For a held slot the higher rank stays.
-fn contest(book: &mut [u8], at: usize, given: &[u8]) -> OfferAnswer
-    requires { ⌜ Contested (now book) (now given) at ⌝ }
-    ensures { λ r. ⌜ Ends (now (book .entry)) (now (given .entry)) (offerNumber r) (now (book .exit)) ⌝ }
-{
-    let from = 48 + 145 * at;
     let end = from + 145;
-    match rank(given, &book[from..end]) {
-        Order::Less => {
+    match choose(&book[from..end], given) {
+        Choice::First => refuse(book, at, given),
+        Choice::Second => {
             replace_record(book, at, given);
             OfferAnswer::Kept
         }
-        Order::Same => OfferAnswer::Held,
-        Order::More => OfferAnswer::Outranked,
+        Choice::Neither => add(book, count, at, given),
+    }
+}
+
+// A record that does not rank higher than the held one: it is this very one, or the other ranks higher.
+fn refuse(book: &[u8], at: usize, given: &[u8]) -> OfferAnswer
+    requires { ⌜ Unbeaten (now book) (now given) at ⌝ }
+    ensures { λ r. ⌜ Ends (now (book .entry)) (now (given .entry)) (offerNumber r) (now (book .entry)) ⌝ }
+{
+    let from = 48 + 145 * at;
+    let end = from + 145;
+    match choose(given, &book[from..end]) {
+        Choice::First => OfferAnswer::Held,
+        Choice::Second => OfferAnswer::Outranked,
+        Choice::Neither => OfferAnswer::Outranked,
     }
 }
 

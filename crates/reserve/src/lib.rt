@@ -1,11 +1,6 @@
-// The book in bytes: its layout, well-formedness, opening, rank, and the offer.
-pub mod check;
+// The offer to a book in bytes.
 mod edit;
 mod enter;
-pub mod header;
 pub mod offer;
-pub mod open;
 mod place;
-pub mod rank;
-pub mod record;
 mod rise;

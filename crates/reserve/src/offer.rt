@@ -1,15 +1,15 @@
 // An offer to a book: address, stamp and the account that signed it.
-use crate::check::BookAnswer;
-use crate::check::check_book;
 use crate::enter::enter;
-use crate::header::overfull;
+use book::header::overfull;
 use octets::moving::put;
 use postage::StampAnswer;
 use postage::check_stamp;
+use wellformed::check::BookAnswer;
+use wellformed::check::check_book;
 ghost use mathlib.Core.Path.{_≡_};
 ghost use lib.ListN.{length};
-ghost use Rattle.reserve.specs.Record.{recordOf};
-ghost use Rattle.reserve.specs.Layout.{WellFormed};
+ghost use Rattle.records.specs.Record.{recordOf};
+ghost use Rattle.book.specs.Layout.{WellFormed};
 ghost use Rattle.reserve.specs.Answer.{offerNumber};
 ghost use Rattle.reserve.specs.Offer.{offered};
 ghost use Rattle.reserve.specs.Awaits.{Awaits, Ends};

@@ -3,8 +3,8 @@ use octets::order::Order;
 use octets::order::compare;
 ghost use mathlib.Core.Path.{_≡_};
 ghost use lib.ListN.{length};
-ghost use Rattle.reserve.specs.Record.{slot};
-ghost use Rattle.reserve.specs.Layout.{WellFormed, countIn};
+ghost use Rattle.records.specs.Record.{slot};
+ghost use Rattle.book.specs.Layout.{WellFormed, countIn};
 ghost use Rattle.reserve.specs.Place.{PlaceIn};
 
 // How many records have a slot below `key`, found by halving.

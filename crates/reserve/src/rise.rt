@@ -10,11 +10,11 @@ ghost use lib.ListN.{length, take, drop};
 ghost use Rattle.octets.specs.Pieces.{pieces};
 ghost use Rattle.settling.specs.Tally.{reach, least};
 ghost use Rattle.settling.proofs.Counters.{Counters};
-ghost use Rattle.reserve.specs.Record.{slot, nearOf};
-ghost use Rattle.reserve.specs.Layout.{overlayIn};
-ghost use Rattle.reserve.specs.Book.{Book};
+ghost use Rattle.records.specs.Record.{slot, nearOf};
+ghost use Rattle.book.specs.Layout.{overlayIn};
+ghost use Rattle.book.specs.Book.{Book};
 ghost use Rattle.reserve.specs.Edit.{Stands};
-ghost use Rattle.reserve.specs.Shape.{shapeIn};
+ghost use Rattle.book.specs.Shape.{shapeIn};
 ghost use Rattle.reserve.specs.Rise.{Packed, KeptInside};
 
 // How many records stayed before a place, and in all.

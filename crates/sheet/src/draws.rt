@@ -4,11 +4,11 @@ use crate::stamped::ROOMY;
 use crate::stamped::offered;
 use crate::stamped::opened;
 use crate::tally::Tally;
+use book::record::record_at;
 use chunk::address;
 use draw::draw;
 use octets::moving::put;
 use octets::number::read64;
-use reserve::record::record_at;
 
 // The span of a chunk of one byte.
 const SPAN: [u8; 8] = [1, 0, 0, 0, 0, 0, 0, 0];

@@ -4,16 +4,16 @@ use crate::stamped::offered;
 use crate::stamped::opened;
 use crate::tally::Tally;
 use crate::tally::heading;
+use book::header::capacity;
+use book::header::count;
+use book::header::depth;
+use book::header::overfull;
+use book::header::starting_depth;
 use nearness::near::nearness;
 use octets::number::read16;
 use octets::number::read32;
 use octets::number::read64;
-use reserve::check::check_book;
-use reserve::header::capacity;
-use reserve::header::count;
-use reserve::header::depth;
-use reserve::header::overfull;
-use reserve::header::starting_depth;
+use wellformed::check::check_book;
 
 // The batch depth of the example.
 const BATCH_DEPTH: u8 = 17;

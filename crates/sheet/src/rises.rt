@@ -5,8 +5,8 @@ use crate::stamped::offered;
 use crate::stamped::opened;
 use crate::tally::Tally;
 use crate::tally::heading;
-use reserve::header::count;
-use reserve::header::depth;
+use book::header::count;
+use book::header::depth;
 
 // The three examples of a seventeenth slot.
 pub(crate) fn run(tally: Tally) -> Tally {

@@ -3,8 +3,8 @@ use octets::moving::put;
 use octets::number::read16;
 use octets::number::write32;
 use octets::number::write64;
+use opening::open::open;
 use reserve::offer::offer;
-use reserve::open::open;
 
 // The bytes of a book of capacity 16.
 pub(crate) const BOOK: usize = 2368;

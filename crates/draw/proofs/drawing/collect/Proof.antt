@@ -5,9 +5,9 @@ use native.Mathlib.Omega.{arith}
 use borrow.Author.Needs.{needs}
 use borrow.Author.Tests.{not-true, not-false}
 use lib.ListN.{length}
-use Rattle.reserve.specs.Layout.{countIn}
-use Rattle.reserve.proofs.Fields.{count-there}
-use Rattle.reserve.proofs.Records.{record-length}
+use Rattle.book.specs.Layout.{countIn}
+use Rattle.book.proofs.Fields.{count-there}
+use Rattle.book.proofs.Records.{record-length}
 use Rattle.draw.proofs.Collecting.{Walked, walk-starts, walk-turn, walk-refused, walk-left, walk-ends}
 use Rattle.draw.proofs.drawing.collect.Statement.{statement}
 use Rattle.draw.proofs.drawing.collect.Tie as tie
@@ -15,8 +15,8 @@ use Rattle.draw.proofs.drawing.collect.Reads as reads
 use Rattle.draw.proofs.drawing.collect.Lts as lts
 use Rattle.draw.proofs.answer.DrawAnswer.is_done.Reads as is-done-reads
 use Rattle.draw.proofs.drawing.read_cell.Reads as read-cell-reads
-use Rattle.reserve.proofs.header.count.Reads as count-reads
-use Rattle.reserve.proofs.record.record_at.Reads as record-at-reads
+use Rattle.book.proofs.header.count.Reads as count-reads
+use Rattle.book.proofs.record.record_at.Reads as record-at-reads
 
 abbrev Inv-loop : tie.InvT-loop
 Inv-loop book shelf anchor best₀ records at₀ held₀ i₀ best at held i = Walked book shelf anchor records best at held i

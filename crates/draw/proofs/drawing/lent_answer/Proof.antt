@@ -6,8 +6,8 @@ use Rattle.draw.proofs.drawing.lent_answer.Statement.{statement}
 use Rattle.draw.proofs.drawing.lent_answer.Tie as tie
 use Rattle.draw.proofs.drawing.lent_answer.Reads as reads
 use Rattle.draw.proofs.drawing.lent_answer.Lts as lts
-use Rattle.reserve.proofs.check.check_book.Reads as check-book-reads
-use Rattle.reserve.proofs.header.overfull.Reads as overfull-reads
+use Rattle.wellformed.proofs.check.check_book.Reads as check-book-reads
+use Rattle.book.proofs.header.overfull.Reads as overfull-reads
 
 check-book-requires : tie.Need-check-book-requires
 check-book-requires c κs = search needs

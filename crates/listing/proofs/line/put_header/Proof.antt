@@ -6,8 +6,8 @@ use native.Mathlib.Omega.{arith}
 use borrow.Author.Needs.{needs}
 use Rattle.octets.proofs.Numbers.{bigAt-fits}
 use Rattle.octets.proofs.Edits.{part-length}
-use Rattle.reserve.specs.Layout.{markIn, stateIn}
-use Rattle.reserve.proofs.Fields
+use Rattle.book.specs.Layout.{markIn, stateIn}
+use Rattle.book.proofs.Fields
 use Rattle.listing.specs.Line.{space, line, stateWord, headerLine}
 use Rattle.listing.proofs.Puts
 use Rattle.listing.proofs.line.put_header.Statement.{statement}

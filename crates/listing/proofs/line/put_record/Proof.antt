@@ -8,8 +8,8 @@ use lib.Seq.{take-take}
 use Rattle.octets.proofs.Numbers.{bigAt-fits}
 use Rattle.octets.proofs.Edits.{part-length}
 use Rattle.nearness.specs.Near.{bitsIn}
-use Rattle.reserve.specs.Record.{addressIn}
-use Rattle.reserve.proofs.Fields
+use Rattle.records.specs.Record.{addressIn}
+use Rattle.book.proofs.Fields
 use Rattle.listing.specs.Field.{hex}
 use Rattle.listing.specs.Line.{space, line, recordLine}
 use Rattle.listing.proofs.Puts

@@ -8,8 +8,8 @@ use lib.ListN.{length, take, drop, length-append}
 use Rattle.octets.specs.Moving.{over}
 use Rattle.octets.proofs.Edits.{part-length, over-nil}
 use Rattle.octets.specs.Pieces.{pieces}
-use Rattle.reserve.specs.Layout.{countIn, overlayIn}
-use Rattle.reserve.proofs.Records.{record-bytes, record-length}
+use Rattle.book.specs.Layout.{countIn, overlayIn}
+use Rattle.book.proofs.Records.{record-bytes, record-length}
 use Rattle.listing.specs.Line.{recordLine, recordLines}
 use Rattle.listing.proofs.Puts
 use Rattle.listing.proofs.Listed

@@ -4,7 +4,7 @@ use mathlib.Core.Bool.{true, false}
 use native.Mathlib.Omega.{arith}
 use borrow.Author.Needs.{needs}
 use lib.Dec.{eqb}
-use Rattle.reserve.specs.Layout.{stateIn}
+use Rattle.book.specs.Layout.{stateIn}
 use Rattle.listing.specs.Line.{space, stateWord, good, overfull}
 use Rattle.listing.proofs.Puts
 use Rattle.listing.proofs.line.put_state.Statement.{statement}

@@ -3,7 +3,7 @@ use mathlib.Core.Path.{sym, _∙_}
 use mathlib.Core.List.{[], _∷_, _++_}
 use native.Mathlib.Omega.{arith}
 use borrow.Author.Needs.{needs}
-use Rattle.reserve.proofs.Ways.{formed-as}
+use Rattle.wellformed.proofs.Verdicts.{formed-as}
 use Rattle.listing.specs.Line.{lineFeed}
 use Rattle.listing.specs.Listing.{tooLarge, badBook, listing}
 use Rattle.listing.proofs.Puts

@@ -2,8 +2,8 @@
 use mathlib.Core.Path.{_≡_, _∙_}
 use native.Mathlib.Omega.{arith}
 use borrow.Author.Needs.{needs}
-use Rattle.reserve.specs.Layout.{countIn}
-use Rattle.reserve.proofs.Fields
+use Rattle.book.specs.Layout.{countIn}
+use Rattle.book.proofs.Fields
 use Rattle.listing.specs.Listing.{listing}
 use Rattle.listing.proofs.Puts
 use Rattle.listing.proofs.Listed

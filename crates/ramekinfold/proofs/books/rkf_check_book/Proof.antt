@@ -1,6 +1,6 @@
 -- `ramekinfold::rkf_check_book` meets its contract.
 use mathlib.Core.Path.{ap, _∙_}
-use Rattle.reserve.specs.Check.{bookNumber}
+use Rattle.wellformed.specs.Check.{bookNumber}
 use borrow.Author.Needs.{needs}
 use Rattle.ramekinfold.proofs.books.rkf_check_book.Statement.{statement}
 use Rattle.ramekinfold.proofs.books.rkf_check_book.Tie as tie

@@ -1,6 +1,6 @@
 -- `ramekinfold::rkf_open` meets its contract.
 use mathlib.Core.Path.{ap, _∙_}
-use Rattle.reserve.specs.Open.{openNumber}
+use Rattle.opening.specs.Open.{openNumber}
 use borrow.Author.Needs.{needs}
 use Rattle.ramekinfold.proofs.books.rkf_open.Statement.{statement}
 use Rattle.ramekinfold.proofs.books.rkf_open.Tie as tie

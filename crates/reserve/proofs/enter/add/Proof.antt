@@ -2,10 +2,10 @@
 use mathlib.Core.Path.{sym, _∙_}
 use Prim.Native.Nat.{_<_}
 use native.Mathlib.Omega.{arith}
-use Rattle.reserve.specs.Layout.{depthIn, capacityIn, recordsIn}
-use Rattle.reserve.specs.Book.{read}
-use Rattle.reserve.proofs.Cuts
-use Rattle.reserve.proofs.Fields
+use Rattle.book.specs.Layout.{depthIn, capacityIn, recordsIn}
+use Rattle.book.specs.Book.{read}
+use Rattle.book.proofs.Cuts
+use Rattle.book.proofs.Fields
 use Rattle.reserve.proofs.Enters
 use Rattle.reserve.proofs.Steps
 use borrow.Author.Needs.{needs}

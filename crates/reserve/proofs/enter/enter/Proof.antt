@@ -5,10 +5,10 @@ use lib.ListN.{take}
 use lib.Seq.{take-take, length-take-le}
 use Rattle.octets.specs.Number.{big}
 use Rattle.octets.proofs.Edits.{part-length}
-use Rattle.reserve.specs.Record.{slot, nearOf}
-use Rattle.reserve.specs.Layout.{depthIn, overlayIn}
+use Rattle.records.specs.Record.{slot, nearOf}
+use Rattle.book.specs.Layout.{depthIn, overlayIn}
 use Rattle.reserve.specs.Place.{PlaceIn}
-use Rattle.reserve.proofs.Fields
+use Rattle.book.proofs.Fields
 use Rattle.reserve.proofs.Enters
 use borrow.Author.Needs.{needs}
 use Rattle.reserve.proofs.enter.enter.Statement.{statement}

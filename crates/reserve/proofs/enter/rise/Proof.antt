@@ -8,13 +8,13 @@ use Rattle.octets.specs.Pieces.{pieces}
 use Rattle.settling.specs.Book.{inside}
 use Rattle.settling.specs.Tally.{least}
 use Rattle.settling.proofs.Counters.{Counters}
-use Rattle.reserve.specs.Record.{slot, nearOf}
-use Rattle.reserve.specs.Layout.{depthIn, overlayIn, capacityIn, recordsIn}
-use Rattle.reserve.specs.Book.{read}
-use Rattle.reserve.specs.Shape.{shapeIn}
-use Rattle.reserve.proofs.Headed.{stands-length}
-use Rattle.reserve.proofs.Cuts
-use Rattle.reserve.proofs.Fields
+use Rattle.records.specs.Record.{slot, nearOf}
+use Rattle.book.specs.Layout.{depthIn, overlayIn, capacityIn, recordsIn}
+use Rattle.book.specs.Book.{read}
+use Rattle.book.specs.Shape.{shapeIn}
+use Rattle.reserve.proofs.Standing.{stands-length}
+use Rattle.book.proofs.Cuts
+use Rattle.book.proofs.Fields
 use Rattle.reserve.proofs.Enters
 use Rattle.reserve.proofs.Rises
 use Rattle.reserve.proofs.Steps
@@ -25,8 +25,8 @@ use Rattle.reserve.proofs.enter.rise.Reads as reads
 use Rattle.reserve.proofs.enter.rise.Lts as lts
 use Rattle.reserve.proofs.edit.add_record.Reads as add-record-reads
 use Rattle.reserve.proofs.edit.burst.Reads as burst-reads
-use Rattle.reserve.proofs.header.capacity.Reads as capacity-reads
-use Rattle.reserve.proofs.header.depth.Reads as depth-reads
+use Rattle.book.proofs.header.capacity.Reads as capacity-reads
+use Rattle.book.proofs.header.depth.Reads as depth-reads
 use Rattle.reserve.proofs.rise.keep_inside.Reads as keep-inside-reads
 use Rattle.reserve.proofs.rise.least_depth.Reads as least-depth-reads
 use Rattle.reserve.proofs.rise.near.Reads as near-reads

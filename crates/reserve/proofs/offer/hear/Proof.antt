@@ -6,7 +6,7 @@ use Rattle.octets.proofs.Bytes.{bytes-known}
 use Rattle.postage.specs.declared.rules.StampAnswer.{StampAnswer}
 use Rattle.postage.specs.declared.rules.StampAnswer.the-variants.{Passes, BadList, WrongLength, NoBatch, OtherBucket, IndexPast, NotOwner}
 use Rattle.postage.specs.Rules.{stampNumber}
-use Rattle.reserve.specs.Layout.{stateIn}
+use Rattle.book.specs.Layout.{stateIn}
 use Rattle.reserve.specs.Stamps.{stampAnswer}
 use Rattle.reserve.specs.Offer.{Ended, offered}
 use Rattle.reserve.proofs.Stamped
@@ -17,7 +17,7 @@ use Rattle.reserve.proofs.offer.hear.Tie as tie
 use Rattle.reserve.proofs.offer.hear.Reads as reads
 use Rattle.reserve.proofs.offer.hear.Lts as lts
 use Rattle.postage.proofs.check_stamp.Reads as check-stamp-reads
-use Rattle.reserve.proofs.header.overfull.Reads as overfull-reads
+use Rattle.book.proofs.header.overfull.Reads as overfull-reads
 use Rattle.reserve.proofs.offer.take.Reads as take-reads
 
 returns : tie.Need-returns

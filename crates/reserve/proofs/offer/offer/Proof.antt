@@ -2,7 +2,8 @@
 use mathlib.Core.Path.{sym, ap, _∙_}
 use Rattle.octets.proofs.Bytes.{bytes-known}
 use Rattle.reserve.specs.Offer.{Ended}
-use Rattle.reserve.proofs.Tested.{said}
+use Rattle.wellformed.proofs.Tested.{said}
+use Rattle.wellformed.proofs.Verdicts
 use Rattle.reserve.proofs.Ways
 use borrow.Author.Needs.{needs}
 use Rattle.reserve.proofs.offer.offer.Statement.{statement}
@@ -13,14 +14,14 @@ hear-requires c κs =
     let t = c .before .before .before in
     let k = t .before .before .before .before .before .before .before in
     let s = k .args .book .now in
-    said s (bytes-known s (λ n. t .before .before .before .before .before .before .slice-known .given n .fits)) (Ways.formed-as s (sym (t .check-book .ensures) ∙ c .before .enum-told2 .given .1))
+    said s (bytes-known s (λ n. t .before .before .before .before .before .before .slice-known .given n .fits)) (Verdicts.formed-as s (sym (t .check-book .ensures) ∙ c .before .enum-told2 .given .1))
 
 returns : tie.Need-returns
 returns c =
     let t = c .before .before in
     let k = t .before .before .before .before .before .before .before in
     let s = k .args .book .now in
-    let w = Ways.way-ill s (k .args .batches .now) (k .args .address .now) (k .args .stamp .now) (k .args .account .now) (Ways.formed-as s (sym (t .check-book .ensures) ∙ c .enum-told .given .1)) in
+    let w = Ways.way-ill s (k .args .batches .now) (k .args .address .now) (k .args .stamp .now) (k .args .account .now) (Verdicts.formed-as s (sym (t .check-book .ensures) ∙ c .enum-told .given .1)) in
     (sym (ap (λ (x : Ended). x .number) w), sym (ap (λ (x : Ended). x .bytes) w))
 
 returns-2 : tie.Need-returns-2

@@ -10,10 +10,10 @@ use Rattle.octets.specs.Order.{byteOrder}
 use Rattle.octets.proofs.Bytes.{bytes-known}
 use Rattle.octets.proofs.Ordered.{less-not-same, less-not-more}
 use Rattle.settling.proofs.Places.{halving-start}
-use Rattle.reserve.specs.Record.{slot}
-use Rattle.reserve.specs.Shape.{shapeIn}
-use Rattle.reserve.specs.Layout.{countIn, recordsIn}
-use Rattle.reserve.proofs.Cuts
+use Rattle.records.specs.Record.{slot}
+use Rattle.book.specs.Shape.{shapeIn}
+use Rattle.book.specs.Layout.{countIn, recordsIn}
+use Rattle.book.proofs.Cuts
 use Rattle.reserve.proofs.Halves
 use Rattle.reserve.proofs.place.place.Statement.{statement}
 use Rattle.reserve.proofs.place.place.Tie as tie

@@ -4,7 +4,7 @@ use native.Mathlib.Omega.{arith}
 use lib.Bits.{bitXor}
 use lib.Count.{leading-le}
 use Rattle.octets.proofs.Bytes.{bytes-known}
-use Rattle.reserve.proofs.Buckets
+use Rattle.records.proofs.Buckets
 use Rattle.reserve.proofs.rise.near.Statement.{statement}
 use Rattle.reserve.proofs.rise.near.Tie as tie
 

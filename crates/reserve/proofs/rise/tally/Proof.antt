@@ -6,7 +6,7 @@ use Prim.Native.Nat.{_-_, _≤_}
 use lib.ListN.{length, take, drop, length-set}
 use Rattle.octets.specs.Pieces.{pieces}
 use Rattle.settling.proofs.Counters.{Counters, counters-none}
-use Rattle.reserve.specs.Shape.{shapeIn}
+use Rattle.book.specs.Shape.{shapeIn}
 use Rattle.reserve.proofs.Counting
 use Rattle.reserve.proofs.rise.tally.Statement.{statement}
 use Rattle.reserve.proofs.rise.tally.Tie as tie

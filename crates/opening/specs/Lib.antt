@@ -1,0 +1,3 @@
+-- Opening a book.
+pub mod Open
+pub mod Determined

@@ -1,0 +1,2 @@
+// Opening a book.
+pub mod open;

@@ -1,0 +1,2 @@
+// Which bytes are a well-formed book.
+pub mod check;
