@@ -1,18 +1,16 @@
 -- A book's bytes as 48 of header, the records and zeros; where the header's parts stand and how they are written.
 use mathlib.Core.Path.{_≡_, refl, sym, ap, _∙_}
 use mathlib.Core.List.{List, [], _∷_, _++_, append-assoc}
-use Prim.Native.Nat.{ℕ, _+_, _-_, _*_, _^_, _≤_, _<_}
+use Prim.Native.Nat.{ℕ, _+_, _-_, _*_, _^_, _<_}
 use native.Mathlib.Omega.{arith}
-use lib.ListN.{length, drop, set, replicate, length-append, length-replicate}
+use lib.ListN.{length, drop, set, replicate, length-append}
 use lib.Seq.{take-at, drop-at, drop-append-add, drop-append-seam}
 use Rattle.octets.specs.Number.{bytesOf}
 use Rattle.octets.specs.Moving.{over}
-use Rattle.octets.specs.Pieces.{pieces}
 use Rattle.octets.proofs.Numbers.{length-bytesOf, big-bytesOf}
 use Rattle.settling.specs.Book.{overfull, good}
 use Rattle.book.specs.Layout.{mark, overlayIn, capacityIn, countIn, laid}
 use Rattle.book.specs.Book.{Book, inState, write}
-use Rattle.book.proofs.Laid.{length-laid, pieces-laid}
 
 unfoldable pub header : ℕ → ℕ → ℕ → List ℕ → ℕ → ℕ → List ℕ
 header flag starting depth overlay capacity count =
