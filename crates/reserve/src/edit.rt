@@ -1,12 +1,11 @@
-// A good book's bytes, edited in place: one record more, or another in its place; none at all.
+// A good book's bytes, edited in place: one record more; none at all.
 use octets::moving::clear;
 use octets::moving::insert;
-use octets::moving::put;
 use octets::number::write32;
 ghost use mathlib.Core.List.{List, _∷_, _++_};
 ghost use mathlib.Core.Path.{_≡_};
 ghost use Prim.Native.Nat.{ℕ, _+_, _*_, _≤_, _<_};
-ghost use lib.ListN.{length, take, drop, set};
+ghost use lib.ListN.{length, take, drop};
 ghost use Rattle.settling.specs.Book.{overfull};
 ghost use Rattle.book.specs.Book.{Book, inState, write};
 ghost use Rattle.reserve.specs.Edit.{Stands};
@@ -19,15 +18,6 @@ pub(crate) fn add_record(book: &mut [u8], count: usize, at: usize, given: &[u8])
 {
     insert(book, 48 + 145 * at, 48 + 145 * count, given);
     write32(book, 44, (count + 1) as u32);
-}
-
-// The record `given`, in the place of the one at place `at`.
-pub(crate) fn replace_record(book: &mut [u8], at: usize, given: &[u8])
-    requires { ⌜ (48 + 145 * (at + 1) ≤ length (now book)) × (length (now given) ≡ 145) ⌝ }
-    ensures { λ _. ⌜ ((b : Book) (d : ℕ) (l : List (List ℕ)) → Stands (now (book .entry)) b d l → at < length l
-        → Stands (now (book .exit)) b d (set l at (now (given .entry)))) ⌝ }
-{
-    put(book, 48 + 145 * at, given);
 }
 
 // An overfull book: depth 16 and count 0, and no record's byte is left.

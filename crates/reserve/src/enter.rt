@@ -1,7 +1,6 @@
 // A record that passed the stamp's checks, entered into a good book.
 use crate::edit::add_record;
 use crate::edit::burst;
-use crate::edit::replace_record;
 use crate::offer::OfferAnswer;
 use crate::place::place;
 use crate::rise::keep_inside;
@@ -11,6 +10,8 @@ use crate::rise::tally;
 use book::header::capacity;
 use book::header::count;
 use book::header::depth;
+use book::record::record_at;
+use octets::moving::put;
 use records::rank::Choice;
 use records::rank::choose;
 ghost use mathlib.Core.Path.{_≡_};
@@ -37,32 +38,25 @@ fn file(book: &mut [u8], count: usize, at: usize, given: &[u8]) -> OfferAnswer
     requires { ⌜ AwaitsAt (now book) (now given) at × (count ≡ countIn (now book)) ⌝ }
     ensures { λ r. ⌜ Ends (now (book .entry)) (now (given .entry)) (offerNumber r) (now (book .exit)) ⌝ }
 {
-    if count <= at {
-        return add(book, count, at, given);
-    }
-    let from = 48 + 145 * at;
-    let end = from + 145;
-    match choose(&book[from..end], given) {
-        Choice::First => refuse(book, at, given),
-        Choice::Second => {
-            replace_record(book, at, given);
-            OfferAnswer::Kept
-        }
+    match choose(given, record_at(book, at)) {
+        Choice::First => replace(book, at, given),
+        Choice::Second => OfferAnswer::Outranked,
         Choice::Neither => add(book, count, at, given),
     }
 }
 
-// A record that does not rank higher than the held one: it is this very one, or the other ranks higher.
-fn refuse(book: &[u8], at: usize, given: &[u8]) -> OfferAnswer
+// Where the held record does not rank higher: it is this very one, or the given one takes its place.
+fn replace(book: &mut [u8], at: usize, given: &[u8]) -> OfferAnswer
     requires { ⌜ Unbeaten (now book) (now given) at ⌝ }
-    ensures { λ r. ⌜ Ends (now (book .entry)) (now (given .entry)) (offerNumber r) (now (book .entry)) ⌝ }
+    ensures { λ r. ⌜ Ends (now (book .entry)) (now (given .entry)) (offerNumber r) (now (book .exit)) ⌝ }
 {
-    let from = 48 + 145 * at;
-    let end = from + 145;
-    match choose(given, &book[from..end]) {
+    match choose(record_at(book, at), given) {
         Choice::First => OfferAnswer::Held,
-        Choice::Second => OfferAnswer::Outranked,
-        Choice::Neither => OfferAnswer::Outranked,
+        Choice::Second => {
+            put(book, 48 + 145 * at, given);
+            OfferAnswer::Kept
+        }
+        Choice::Neither => OfferAnswer::Held,
     }
 }
 
