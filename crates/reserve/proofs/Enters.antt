@@ -23,12 +23,17 @@ use Rattle.records.proofs.Ranks.{first-says, second-says, neither-says}
 use Rattle.book.specs.Shape.{shapeIn}
 use Rattle.book.specs.Layout.{depthIn, overlayIn, capacityIn, countIn, recordsIn, recordIn}
 use Rattle.book.specs.Book.{read}
-use Rattle.reserve.specs.Edit.{Stands}
+use Rattle.filing.specs.Near.{nearIn}
+use Rattle.filing.specs.Edit.{added}
+use Rattle.filing.proofs.Nearing.{near-in}
 use Rattle.reserve.specs.Awaits.{Awaits, AwaitsAt, Free, Ends}
 use Rattle.book.proofs.Cuts.{counted}
 use Rattle.book.proofs.Records.{no-record}
-use Rattle.reserve.proofs.Stored.{replaced}
+use Rattle.reserve.proofs.Stored.{stands-added, replaced}
 use Rattle.reserve.proofs.Steps.{kept, stands, ends, ends-same}
+
+pub near-there : (s r : List ℕ) → Awaits s r → nearIn s r ≡ nearOf (overlayIn s) (slot r)
+near-there s r w = near-in s r (omega (arith, w .formed .size)) (w .fits .size)
 
 -- shared bits below depth
 pub lies-outside : (s r : List ℕ) → Awaits s r → nearOf (overlayIn s) (slot r) < depthIn s → Ends s r 20 s
@@ -113,8 +118,10 @@ module _ (s r : List ℕ) (i : ℕ) (w : Free s r i) where
   pub free-place : i ≤ countIn s
   free-place = omega (arith, w .at .place .bounded, counted s)
 
-  pub adds : countIn s < capacityIn s → (t : List ℕ) → Stands t (read s) (depthIn s) (take i (recordsIn s) ++ (r ∷ drop i (recordsIn s))) → Ends s r 0 t
-  adds h t u =
+  pub adds : (n : ℕ) → n ≡ countIn s → n < capacityIn s → (t : List ℕ) → t ≡ added s n i r → Ends s r 0 t
+  unfolding read
+  adds n e h t u =
+      let many : length (recordsIn s) ≡ n = counted s ∙ sym e in
       ends s r free-awaits (good (depthIn s) (take i (recordsIn s) ++ (r ∷ drop i (recordsIn s)))) 0
-      (step-added (shapeIn s) [] (depthIn s) (recordsIn s) r i (kept s r free-awaits) (w .at .inside) (w .at .place) free-there (omega (arith, counted s, h)))
-      t (u .bytes)
+      (step-added (shapeIn s) [] (depthIn s) (recordsIn s) r i (kept s r free-awaits) (w .at .inside) (w .at .place) free-there (omega (arith, many, h)))
+      t (u ∙ stands-added s (read s) (depthIn s) (recordsIn s) r i (stands s r free-awaits) (free-awaits .fits .size) n many (omega (arith, free-place, e)) h .bytes)

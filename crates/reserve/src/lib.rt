@@ -1,8 +1,6 @@
 // Books in bytes: well-formedness, opening, and the offer.
 pub mod check;
-mod edit;
 mod enter;
 pub mod offer;
 pub mod open;
 mod place;
-mod rise;
