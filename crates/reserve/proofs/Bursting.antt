@@ -1,25 +1,24 @@
 -- The bytes of a book that becomes overfull: state and depth are stored, then the count, then zeros over every record.
-use mathlib.Core.Path.{_≡_, sym, ap, _∙_}
+use mathlib.Core.Path.{_≡_, refl, sym, ap, _∙_}
 use mathlib.Core.List.{List, [], _++_, append-nil}
 use Prim.Native.Nat.{ℕ, _+_, _-_, _*_, _≤_}
 use native.Mathlib.Omega.{arith}
 use lib.ListN.{length, set, replicate, length-append, length-set, length-replicate}
+use borrow.Author.Tests.{le-leb}
 use Rattle.octets.specs.Number.{bytesOf}
 use Rattle.octets.specs.Moving.{over, placed}
 use Rattle.octets.proofs.Numbers.{length-bytesOf}
-use Rattle.octets.proofs.Edits.{placed-fits, length-placed}
+use Rattle.octets.proofs.Edits.{placed-fits}
 use Rattle.settling.specs.Book.{overfull}
 use Rattle.book.specs.Layout.{laid}
 use Rattle.book.specs.Book.{Book, inState, write}
+use Rattle.filing.specs.Edit.{burstBytes}
 use Rattle.reserve.specs.Edit.{Stands}
 use Rattle.book.proofs.Laid.{length-laid}
 use Rattle.book.proofs.Headed.{header, length-header, set-flag, set-depth, over-count, over-middle, zeros, write-overfull}
 use Rattle.reserve.proofs.Standing.{stands-bytes, stands-length}
 
 module _ (s t u : List ℕ) (n : ℕ) (et : t ≡ placed (set (set s 5 1) 7 16) 44 (bytesOf 4 0)) (eu : u ≡ placed t 48 (replicate n 0)) where
-  pub same-size : length u ≡ length s
-  same-size = ap length eu ∙ length-placed t 48 (replicate n 0) ∙ ap length et ∙ length-placed (set (set s 5 1) 7 16) 44 (bytesOf 4 0) ∙ simp length-set
-
   module _ (b : Book) (d : ℕ) (l : List (List ℕ)) (w : Stands s b d l) where
     body : List ℕ
     body = laid l ++ zeros b (length l)
@@ -69,8 +68,14 @@ module _ (s t u : List ℕ) (n : ℕ) (et : t ≡ placed (set (set s 5 1) 7 16) 
           ∙ ap (λ (x : List ℕ). over x 48 (replicate n 0)) (counted ∙ ap (λ (x : List ℕ). burst-head 0 ++ x) (sym (append-nil body)))
           ∙ over-middle (burst-head 0) body (replicate n 0) [] 48 head-size (body-size ∙ sym (length-replicate {A = ℕ} n 0 ∙ records))
 
-      pub burst : u ≡ write (inState b overfull)
+      burst : u ≡ write (inState b overfull)
       unfolding burst-head
       burst =
           let k : n ≡ 145 * (b .capacity - 0) = omega (arith, records) in
           cleared ∙ rw (append-nil, k) (sym (write-overfull b))
+
+pub stands-burst : (s : List ℕ) (b : Book) (d : ℕ) (l : List (List ℕ)) → Stands s b d l → burstBytes s ≡ write (inState b overfull)
+unfolding burstBytes
+stands-burst s b d l w =
+    let there : 48 ≤ length s = omega (arith, stands-length w) in
+    rw (le-leb 48 (length s) there) (burst s _ _ (length s - 48) refl refl b d l w refl)

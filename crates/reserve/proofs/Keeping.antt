@@ -1,105 +1,92 @@
--- The bytes of a book whose depth rose: behind the records that stay zeros, then the new depth and count.
+-- The bytes of a book whose depth rose are those of the book at that depth, with the records inside it.
 use mathlib.Core.Path.{_≡_, sym, ap, _∙_}
+use mathlib.Core.Bool.{true}
 use mathlib.Core.List.{List, _++_, append-assoc}
 use Prim.Native.Nat.{ℕ, _+_, _-_, _*_, _≤_}
 use native.Mathlib.Omega.{arith}
-use native.Mathlib.Nat.{le-of-eq}
-use lib.ListN.{length, take, drop, set, replicate, length-set, length-replicate, replicate-append-replicate}
-use lib.Seq.{take-at, drop-at, take-all}
+use lib.ListN.{length, take, set, replicate, length-append, length-set, length-replicate, replicate-append-replicate}
 use Rattle.octets.specs.Number.{bytesOf}
-use Rattle.octets.specs.Moving.{over, placed}
-use Rattle.octets.specs.Pieces.{pieces}
+use Rattle.octets.specs.Moving.{over}
 use Rattle.octets.proofs.Numbers.{length-bytesOf}
 use Rattle.octets.proofs.Edits.{placed-fits, length-placed}
 use Rattle.settling.specs.Book.{inside}
 use Rattle.settling.proofs.Inside.{inside-less, each-inside}
-use Rattle.book.specs.Shape.{shape, shapeIn}
-use Rattle.book.specs.Layout.{laid}
+use Rattle.book.specs.Shape.{shapeIn}
+use Rattle.book.specs.Layout.{countIn, recordsIn, laid}
 use Rattle.book.specs.Book.{Book}
-use Rattle.reserve.specs.Edit.{Stands}
-use Rattle.reserve.specs.Rise.{insideIn, Packed, KeptInside}
+use Rattle.book.proofs.Cuts.{counted}
 use Rattle.book.proofs.Laid.{Sized, length-laid}
-use Rattle.book.proofs.Headed.{set-depth, over-count, head, zeros, write-good}
-use Rattle.reserve.proofs.Standing.{stands-bytes, stands-head, stands-length, stands-overlay, stands-capacity, stands-records}
-use Rattle.reserve.proofs.Stored.{drop-behind}
+use Rattle.book.proofs.Headed.{set-depth, over-count, over-middle, head, zeros, write-good}
+use Rattle.filing.specs.Whole.{whole}
+use Rattle.filing.specs.Keep.{refilled, refiled, keptBytes, staying}
+use Rattle.filing.proofs.Wholeness.{whole-here}
+use Rattle.reserve.specs.Edit.{Stands}
+use Rattle.reserve.proofs.Standing.{stands-bytes, stands-head, stands-length}
 
--- the stores keep the length
-pub same-size : (t u v : List ℕ) (at n depth : ℕ) (w : List ℕ) → u ≡ placed t at (replicate n 0) → v ≡ placed (set u 7 depth) 44 w → length v ≡ length t
-same-size t u v at n depth w eu ev = ap length ev ∙ length-placed (set u 7 depth) 44 w ∙ simp length-set (ap length eu ∙ length-placed t at (replicate n 0))
+module _ (s : List ℕ) (b : Book) (d : ℕ) (w : Stands s b d (recordsIn s)) (depth : ℕ) where
+  stay : List (List ℕ)
+  stay = inside (shapeIn s) depth (recordsIn s)
 
-module _ (s : List ℕ) (b : Book) (d : ℕ) (l : List (List ℕ)) (w : Stands s b d l) (count : ℕ) (many : length l ≡ count) (depth : ℕ) where
-  stay : List (List ℕ) → List (List ℕ)
-  stay = inside (shape (b .overlay) (b .capacity)) depth
+  n : ℕ
+  n = length (recordsIn s)
 
-  same-shape : shapeIn s ≡ shape (b .overlay) (b .capacity)
-  same-shape k = shape (stands-overlay w k) (stands-capacity w k)
+  fewer : length stay ≤ n
+  unfolding stay n
+  fewer = inside-less (shapeIn s) depth (recordsIn s)
 
-  same-records : pieces 145 count (drop 48 s) ≡ l
-  same-records = rw (← many) (stands-records w)
+  fits : n ≤ b .capacity
+  unfolding n
+  fits = w .count
 
-  same-inside : (i : ℕ) → insideIn s count depth i ≡ stay (take i l)
+  same : countIn s ≡ n
+  unfolding n
+  same = sym (counted s)
+
+  size : length s ≡ 48 + 145 * b .capacity
+  size = stands-length w
+
+  pub there : whole s ≡ true
+  there = whole-here s (omega (arith, same, fits, w .most)) (omega (arith, same, fits, size))
+
+  sized : length (laid stay) ≡ 145 * length stay
   unfolding stay
-  same-inside i k = inside (same-shape k) depth (take i (same-records k))
+  sized = length-laid stay (each-inside (shapeIn s) Sized depth (recordsIn s) (w .records))
 
-  same-all : insideIn s count depth count ≡ stay l
-  same-all = same-inside count ∙ ap stay (take-all count l (le-of-eq many))
+  cleared : refilled s stay ≡ head b d n ++ (laid stay ++ zeros b (length stay))
+  unfolding n
+  cleared =
+      let gone = replicate {A = ℕ} (145 * (countIn s - length stay)) 0 in
+      let k : length gone ≡ 145 * (countIn s - length stay) = length-replicate {A = ℕ} (145 * (countIn s - length stay)) 0 in
+      let whole : length (laid stay ++ gone) ≡ 145 * n = simp length-append (omega (arith, k, sized, fewer, same)) in
+      let z : 145 * (countIn s - length stay) + 145 * (b .capacity - n) ≡ 145 * (b .capacity - length stay) = omega (arith, fewer, fits, same) in
+      placed-fits s 48 (laid stay ++ gone) (omega (arith, whole, size, fits))
+      ∙ ap (λ (x : List ℕ). over x 48 (laid stay ++ gone)) (stands-bytes w)
+      ∙ over-middle (head b d n) (laid (recordsIn s)) (laid stay ++ gone) (zeros b n) 48 (stands-head w d n) (length-laid (recordsIn s) (w .records) ∙ sym whole)
+      ∙ ap (λ (x : List ℕ). head b d n ++ x) (append-assoc (laid stay) gone (zeros b n))
+      ∙ ap (λ (x : List ℕ). head b d n ++ (laid stay ++ x)) (rw (← z) (replicate-append-replicate {A = ℕ} (145 * (countIn s - length stay)) (145 * (b .capacity - n)) 0))
 
-  module _ (t : List ℕ) (j : ℕ) (p : Packed s count depth t count j) where
-    kept : j ≡ length (stay l)
-    kept = p .kept ∙ ap length same-all
+  filed : refiled s depth ≡ head b depth (length stay) ++ (laid stay ++ zeros b (length stay))
+  unfolding stay refiled
+  filed =
+      let body = laid stay ++ zeros b (length stay) in
+      let long : length (refilled s stay) ≡ length s = length-placed s 48 _ in
+      let room : 44 + length (bytesOf 4 (length stay)) ≤ length (set (refilled s stay) 7 depth) = simp length-set (omega (arith, long, size, length-bytesOf 4 (length stay))) in
+      placed-fits (set (refilled s stay) 7 depth) 44 (bytesOf 4 (length stay)) room
+      ∙ ap (λ (x : List ℕ). over (set x 7 depth) 44 (bytesOf 4 (length stay))) cleared
+      ∙ ap (λ (x : List ℕ). over x 44 (bytesOf 4 (length stay))) (set-depth 0 (b .starting) d (b .overlay) (b .capacity) n body depth)
+      ∙ over-count 0 (b .starting) depth (b .overlay) (b .capacity) n body (w .overlay) (length stay)
 
-    fewer : j ≤ count
-    unfolding stay
-    fewer = omega (arith, kept, many, inside-less (shape (b .overlay) (b .capacity)) depth l)
+  pub kept-stands : Stands (keptBytes s depth) b depth (inside (shapeIn s) depth (recordsIn s))
+  unfolding stay keptBytes
+  kept-stands =
+      record {
+        bytes = rw there (filed ∙ sym (write-good b depth stay));
+        overlay = w .overlay;
+        records = each-inside (shapeIn s) Sized depth (recordsIn s) (w .records);
+        count = omega (arith, fewer, fits);
+        most = w .most;
+      }
 
-    fits : count ≤ b .capacity
-    fits = omega (arith, many, w .count)
-
-    size : length t ≡ 48 + 145 * b .capacity
-    size = p .size ∙ stands-length w
-
-    head-there : take 48 s ≡ head b d count
-    head-there = ap (take 48) (stands-bytes w) ∙ take-at (head b d (length l)) (laid l ++ zeros b (length l)) 48 (stands-head w d (length l)) ∙ ap (head b d) many
-
-    behind : drop (48 + 145 * count) t ≡ zeros b count
-    behind =
-        p .yet ∙ ap (drop (48 + 145 * count)) (stands-bytes w) ∙ drop-behind (head b d (length l)) (laid l ++ zeros b (length l)) (stands-head w d (length l)) (145 * count)
-        ∙ drop-at (laid l) (zeros b (length l)) (145 * count) (length-laid l (w .records) ∙ ap (λ (n : ℕ). 145 * n) many)
-        ∙ ap (zeros b) many
-
-    cleared : (u : List ℕ) → u ≡ placed t (48 + 145 * j) (replicate (145 * (count - j)) 0) → u ≡ head b d count ++ (laid (stay l) ++ zeros b j)
-    unfolding over
-    cleared u eu =
-        let gone = replicate {A = ℕ} (145 * (count - j)) 0 in
-        let n : length gone ≡ 145 * (count - j) = length-replicate {A = ℕ} (145 * (count - j)) 0 in
-        let e : 48 + 145 * j + length gone ≡ 48 + 145 * count = omega (arith, n, fewer) in
-        let z : 145 * (count - j) + 145 * (b .capacity - count) ≡ 145 * (b .capacity - j) = omega (arith, fewer, fits) in
-        eu ∙ placed-fits t (48 + 145 * j) gone (omega (arith, e, size, fits))
-        ∙ rw (e, behind, p .front, head-there, same-all, ← z, ← replicate-append-replicate {A = ℕ} (145 * (count - j)) (145 * (b .capacity - count)) 0) (simp append-assoc)
-
-    counted : (u v : List ℕ) → u ≡ placed t (48 + 145 * j) (replicate (145 * (count - j)) 0) → v ≡ placed (set u 7 depth) 44 (bytesOf 4 j) → v ≡ head b depth j ++ (laid (stay l) ++ zeros b j)
-    counted u v eu ev =
-        let body = laid (stay l) ++ zeros b j in
-        let long : length u ≡ length t = ap length eu ∙ length-placed t (48 + 145 * j) (replicate (145 * (count - j)) 0) in
-        let room : 44 + length (bytesOf 4 j) ≤ length (set u 7 depth) = simp length-set (omega (arith, long, size, length-bytesOf 4 j)) in
-        ev ∙ placed-fits (set u 7 depth) 44 (bytesOf 4 j) room
-        ∙ ap (λ (x : List ℕ). over (set x 7 depth) 44 (bytesOf 4 j)) (cleared u eu)
-        ∙ ap (λ (x : List ℕ). over x 44 (bytesOf 4 j)) (set-depth 0 (b .starting) d (b .overlay) (b .capacity) count body depth)
-        ∙ over-count 0 (b .starting) depth (b .overlay) (b .capacity) count body (w .overlay) j
-
-    pub risen : (u v : List ℕ) (at before : ℕ) → u ≡ placed t (48 + 145 * j) (replicate (145 * (count - j)) 0) → v ≡ placed (set u 7 depth) 44 (bytesOf 4 j)
-        → before ≡ length (insideIn s count depth at) → KeptInside v b depth l at before j
-    unfolding stay
-    risen u v at before eu ev eb =
-        record {
-          stands =
-              record {
-                bytes = counted u v eu ev ∙ ap (λ (n : ℕ). head b depth n ++ (laid (stay l) ++ zeros b n)) kept ∙ sym (write-good b depth (stay l));
-                overlay = w .overlay;
-                records = each-inside (shape (b .overlay) (b .capacity)) Sized depth l (w .records);
-                count = omega (arith, kept, fewer, fits);
-                most = w .most;
-              };
-          front = eb ∙ ap length (same-inside at);
-          whole = kept;
-        }
+  pub kept-before : (i : ℕ) → staying s i depth ≡ length (inside (shapeIn s) depth (take i (recordsIn s)))
+  unfolding staying
+  kept-before i = rw there

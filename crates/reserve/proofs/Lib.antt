@@ -6,8 +6,6 @@ pub mod Halves
 pub mod Standing
 pub mod Stored
 pub mod Bursting
-pub mod Counting
-pub mod Packing
 pub mod Keeping
 -- the offer
 pub mod Stamped

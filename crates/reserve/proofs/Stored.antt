@@ -5,6 +5,7 @@ use Prim.Native.Nat.{ℕ, suc, _+_, _-_, _*_, _≤_, _<_}
 use native.Mathlib.Omega.{arith}
 use lib.ListN.{length, take, drop, set, replicate, length-append, length-drop, length-take, length-set, length-replicate, replicate-append-replicate}
 use lib.Seq.{take-at, drop-at, take-append-add, drop-append-add, set-split}
+use borrow.Author.Tests.{le-leb, eq-eqb}
 use Rattle.octets.specs.Number.{bytesOf}
 use Rattle.octets.specs.Moving.{over, placed, inserted}
 use Rattle.octets.proofs.Numbers.{length-bytesOf}
@@ -12,6 +13,7 @@ use Rattle.octets.proofs.Edits.{placed-fits, inserted-fits, length-inserted}
 use Rattle.settling.specs.Meaning.{Each}
 use Rattle.book.specs.Layout.{laid}
 use Rattle.book.specs.Book.{Book}
+use Rattle.filing.specs.Edit.{added}
 use Rattle.reserve.specs.Edit.{Stands}
 use Rattle.book.proofs.Laid.{Sized, each-append, each-take, each-drop, each-set, laid-append, laid-cons, length-laid, take-laid, drop-laid}
 use Rattle.book.proofs.Headed.{over-count, head, zeros, write-good}
@@ -97,9 +99,12 @@ module _ (s : List ℕ) (b : Book) (d : ℕ) (l : List (List ℕ)) (r : List ℕ
           placed-fits (inserted s (48 + 145 * at) (48 + 145 * n) r) 44 (bytesOf 4 (n + 1)) there
           ∙ rw (moved-up, more) (over-count 0 (b .starting) d (b .overlay) (b .capacity) n (laid (take at l ++ (r ∷ drop at l)) ++ zeros b (n + 1)) (w .overlay) (n + 1))
 
-  pub added : (n : ℕ) (t u : List ℕ) → t ≡ inserted s (48 + 145 * at) (48 + 145 * n) r → u ≡ placed t 44 (bytesOf 4 (n + 1)) → length l ≡ n → at ≤ n → n < b .capacity
-      → Stands u b d (take at l ++ (r ∷ drop at l))
-  added n t u e f c p room = rw (f, e) (one-more n c p room)
+  pub stands-added : (n : ℕ) → length l ≡ n → at ≤ n → n < b .capacity → Stands (added s n at r) b d (take at l ++ (r ∷ drop at l))
+  unfolding added
+  stands-added n c p room =
+      let few : n ≤ 65535 = omega (arith, room, w .most) in
+      let long : 193 + 145 * n ≤ length s = omega (arith, room, stands-length w) in
+      rw (le-leb n 65535 few, le-leb at n p, eq-eqb (length r) 145 q, le-leb (193 + 145 * n) (length s) long) (one-more n c p room)
 
   pub replaced : (t : List ℕ) → t ≡ placed s (48 + 145 * at) r → at < length l → Stands t b d (set l at r)
   replaced t e p =

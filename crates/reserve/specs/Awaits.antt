@@ -7,7 +7,7 @@ use Rattle.octets.specs.Bytes.{Bytes}
 use Rattle.records.specs.Record.{slot, nearOf, Fitting}
 use Rattle.records.specs.Choice.{choice}
 use Rattle.records.specs.declared.rank.Choice.the-variants.{First}
-use Rattle.book.specs.Layout.{stateIn, depthIn, overlayIn, countIn, recordsIn, WellFormed}
+use Rattle.book.specs.Layout.{stateIn, depthIn, overlayIn, countIn, recordsIn, recordIn, WellFormed}
 use Rattle.reserve.specs.Place.{PlaceIn}
 use Rattle.book.specs.Book.{read}
 use Rattle.reserve.specs.Offer.{entered}
@@ -25,11 +25,10 @@ pub record AwaitsAt (s r : List ℕ) (i : ℕ) : Type 0 where
   pub inside : depthIn s ≤ nearOf (overlayIn s) (slot r)
   pub place : PlaceIn s (slot r) i
 
--- there the slot is held, by a record that ranks not lower
+-- there the slot is held, by a record that does not rank higher
 pub record Unbeaten (s r : List ℕ) (i : ℕ) : Type 0 where
   pub at : AwaitsAt s r i
-  pub there : i < countIn s
-  pub first : choice (getD (recordsIn s) i []) r ≡ First
+  pub first : choice r (recordIn s i) ≡ First
 
 -- or no record holds it
 pub record Free (s r : List ℕ) (i : ℕ) : Type 0 where

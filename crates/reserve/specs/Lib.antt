@@ -6,5 +6,4 @@ pub mod Determined
 -- what parts of the code start from and leave
 pub mod Place
 pub mod Edit
-pub mod Rise
 pub mod Awaits

@@ -1,16 +1,16 @@
 // A record that passed the stamp's checks, entered into a good book.
-use crate::edit::add_record;
-use crate::edit::burst;
-use crate::edit::replace_record;
 use crate::offer::OfferAnswer;
 use crate::place::place;
-use crate::rise::keep_inside;
-use crate::rise::least_depth;
-use crate::rise::near;
-use crate::rise::tally;
 use book::header::capacity;
 use book::header::count;
 use book::header::depth;
+use book::record::record_at;
+use filing::edit::add_record;
+use filing::edit::burst;
+use filing::keep::keep_inside;
+use filing::least::least_depth;
+use filing::near::near;
+use octets::moving::put;
 use records::rank::Choice;
 use records::rank::choose;
 ghost use mathlib.Core.Path.{_≡_};
@@ -24,7 +24,7 @@ pub(crate) fn enter(book: &mut [u8], given: &[u8]) -> OfferAnswer
     requires { ⌜ Awaits (now book) (now given) ⌝ }
     ensures { λ r. ⌜ Ends (now (book .entry)) (now (given .entry)) (offerNumber r) (now (book .exit)) ⌝ }
 {
-    if near(&book[8..40], given) < depth(book) as usize {
+    if near(book, given) < depth(book) as usize {
         return OfferAnswer::Outside;
     }
     let records = count(book);
@@ -37,32 +37,25 @@ fn file(book: &mut [u8], count: usize, at: usize, given: &[u8]) -> OfferAnswer
     requires { ⌜ AwaitsAt (now book) (now given) at × (count ≡ countIn (now book)) ⌝ }
     ensures { λ r. ⌜ Ends (now (book .entry)) (now (given .entry)) (offerNumber r) (now (book .exit)) ⌝ }
 {
-    if count <= at {
-        return add(book, count, at, given);
-    }
-    let from = 48 + 145 * at;
-    let end = from + 145;
-    match choose(&book[from..end], given) {
-        Choice::First => refuse(book, at, given),
-        Choice::Second => {
-            replace_record(book, at, given);
-            OfferAnswer::Kept
-        }
+    match choose(given, record_at(book, at)) {
+        Choice::First => replace(book, at, given),
+        Choice::Second => OfferAnswer::Outranked,
         Choice::Neither => add(book, count, at, given),
     }
 }
 
-// A record that does not rank higher than the held one: it is this very one, or the other ranks higher.
-fn refuse(book: &[u8], at: usize, given: &[u8]) -> OfferAnswer
+// Where the held record does not rank higher: it is this very one, or the given one takes its place.
+fn replace(book: &mut [u8], at: usize, given: &[u8]) -> OfferAnswer
     requires { ⌜ Unbeaten (now book) (now given) at ⌝ }
-    ensures { λ r. ⌜ Ends (now (book .entry)) (now (given .entry)) (offerNumber r) (now (book .entry)) ⌝ }
+    ensures { λ r. ⌜ Ends (now (book .entry)) (now (given .entry)) (offerNumber r) (now (book .exit)) ⌝ }
 {
-    let from = 48 + 145 * at;
-    let end = from + 145;
-    match choose(given, &book[from..end]) {
+    match choose(record_at(book, at), given) {
         Choice::First => OfferAnswer::Held,
-        Choice::Second => OfferAnswer::Outranked,
-        Choice::Neither => OfferAnswer::Outranked,
+        Choice::Second => {
+            put(book, 48 + 145 * at, given);
+            OfferAnswer::Kept
+        }
+        Choice::Neither => OfferAnswer::Held,
     }
 }
 
@@ -75,28 +68,25 @@ fn add(book: &mut [u8], count: usize, at: usize, given: &[u8]) -> OfferAnswer
         add_record(book, count, at, given);
         return OfferAnswer::Kept;
     }
-    rise(book, count, at, given)
+    rise(book, at, given)
 }
 
 // To the least depth at which the records fit, the new one counted; the others go.
-fn rise(book: &mut [u8], count: usize, at: usize, given: &[u8]) -> OfferAnswer
-    requires { ⌜ Free (now book) (now given) at × (count ≡ countIn (now book)) × (capacityIn (now book) ≤ countIn (now book)) ⌝ }
+fn rise(book: &mut [u8], at: usize, given: &[u8]) -> OfferAnswer
+    requires { ⌜ Free (now book) (now given) at × (capacityIn (now book) ≤ countIn (now book)) ⌝ }
     ensures { λ r. ⌜ Ends (now (book .entry)) (now (given .entry)) (offerNumber r) (now (book .exit)) ⌝ }
 {
-    let own = near(&book[8..40], given);
-    let above = depth(book) as usize + 1;
-    let room = capacity(book);
-    let least = least_depth(tally(book, count, own), room, above);
+    let own = near(book, given);
+    let least = least_depth(book, given);
     if 16 < least {
         burst(book);
         return OfferAnswer::Burst;
     }
-    let kept = keep_inside(book, count, at, least);
+    let before = keep_inside(book, at, least as u8);
     if own < least {
         return OfferAnswer::Dropped;
     }
-    let before = kept.before;
-    let all = kept.all;
+    let all = count(book);
     add_record(book, all, before, given);
     OfferAnswer::Kept
 }

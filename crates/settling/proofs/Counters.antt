@@ -9,7 +9,7 @@ use lib.Seq.{take-suc, drop-cons, getD-set-same, getD-set-other}
 use borrow.Author.Tests.{eq-eqb, ne-eqb}
 use Rattle.settling.specs.Rank.{Shape}
 use Rattle.settling.specs.Book.{inside}
-use Rattle.settling.specs.Tally.{reach, tally, total}
+use Rattle.settling.specs.Tally.{reach, tally, Counters, total}
 use Rattle.settling.proofs.Cases.{Side, below, level, above, side, Limit, within, beyond, limit}
 use Rattle.settling.proofs.Inside.{inside-nil, inside-in, inside-out}
 
@@ -63,16 +63,11 @@ module _ {A : Type 0} (B : Shape A) where
       go ih e (within q) = rw (inside-in B top r l q, tally-hit top r l (omega arith)) (omega arith)
       go ih e (beyond q) = rw (inside-out B top r l q, tally-miss top r l (λ f. omega arith)) ih
 
-  -- t counts the records l
-  pub record Counters (t : List ℕ) (l : List A) : Type 0 where
-    pub size : length t ≡ suc top
-    pub each : (m : ℕ) → m ≤ top → getD t m 0 ≡ tally B m l
-
-  pub counters-none : Counters (replicate {A = ℕ} (suc top) 0) []
+  pub counters-none : Counters B (replicate {A = ℕ} (suc top) 0) []
   counters-none = record { size = length-replicate {A = ℕ} (suc top) 0; each = λ m h. getD-replicate {A = ℕ} (suc top) m 0 0 (omega arith) ∙ sym (tally-nil m) }
 
   -- a record more raises the counter of its reach
-  pub counters-more : (t : List ℕ) (l : List A) (r : A) (k : List A) → Counters t l → ((m : ℕ) → tally B m k ≡ tally B m (r ∷ l)) → Counters (set t (reach B r) (getD t (reach B r) 0 + 1)) k
+  pub counters-more : (t : List ℕ) (l : List A) (r : A) (k : List A) → Counters B t l → ((m : ℕ) → tally B m k ≡ tally B m (r ∷ l)) → Counters B (set t (reach B r) (getD t (reach B r) 0 + 1)) k
   counters-more t l r k w f = record { size = length-set t (reach B r) (getD t (reach B r) 0 + 1) ∙ w .size; each = λ m h. go m h (side (reach B r) m) }
     where
       there : reach B r < length t
@@ -88,12 +83,12 @@ module _ {A : Type 0} (B : Shape A) where
           let x : getD t (reach B r) 0 ≡ tally B (reach B r) l = w .each (reach B r) (omega arith) in
           rw (← p) (getD-set-same t (reach B r) (getD t (reach B r) 0 + 1) 0 there ∙ omega (arith, x, f (reach B r), tally-hit (reach B r) r l refl))
 
-  pub counters-cons : (t : List ℕ) (l : List A) (r : A) → Counters t l → Counters (set t (reach B r) (getD t (reach B r) 0 + 1)) (r ∷ l)
+  pub counters-cons : (t : List ℕ) (l : List A) (r : A) → Counters B t l → Counters B (set t (reach B r) (getD t (reach B r) 0 + 1)) (r ∷ l)
   counters-cons t l r w = counters-more t l r (r ∷ l) w (λ m. refl)
 
   -- a pass over the records
-  pub counters-next : (z : A) (t : List ℕ) (l : List A) (i : ℕ) → i < length l → Counters t (take i l)
-      → Counters (set t (reach B (getD l i z)) (getD t (reach B (getD l i z)) 0 + 1)) (take (i + 1) l)
+  pub counters-next : (z : A) (t : List ℕ) (l : List A) (i : ℕ) → i < length l → Counters B t (take i l)
+      → Counters B (set t (reach B (getD l i z)) (getD t (reach B (getD l i z)) 0 + 1)) (take (i + 1) l)
   counters-next z t l i h w = counters-more t (take i l) (getD l i z) (take (i + 1) l) w last
     where
       last : (m : ℕ) → tally B m (take (i + 1) l) ≡ tally B m (getD l i z ∷ take i l)
@@ -102,7 +97,7 @@ module _ {A : Type 0} (B : Shape A) where
           (tally-append m (take i l) (getD l i z ∷ []) ∙ omega (arith, tally-append m (getD l i z ∷ []) (take i l)))
 
   -- the counters from a depth on add up to the records that it keeps
-  pub counters-total : (n c : ℕ) (t : List ℕ) (l : List A) → Counters t l → n + c ≡ top → total (drop c t) ≡ length (inside B c l)
+  pub counters-total : (n c : ℕ) (t : List ℕ) (l : List A) → Counters B t l → n + c ≡ top → total (drop c t) ≡ length (inside B c l)
   counters-total zero c t l w e =
       let z : length t ≡ suc top = w .size in
       let k : getD t top 0 ≡ tally B top l = w .each top (omega arith) in

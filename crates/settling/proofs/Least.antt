@@ -2,17 +2,17 @@
 use Prim.Native.Nat.{ℕ, zero, suc, _+_, _-_, _≤_, _<_}
 use native.Mathlib.Omega.{arith}
 use native.Mathlib.Nat.{le-refl}
-use mathlib.Core.Path.{_≡_, sym, _∙_, ap}
+use mathlib.Core.Path.{_≡_, refl, sym, _∙_, ap}
 use mathlib.Core.List.{List, _∷_}
 use lib.ListN.{length, drop, getD, drop-of-length-le}
 use lib.Seq.{drop-cons, drop-length}
 use borrow.Author.Tests.{le-leb, lt-leb}
 use Rattle.settling.specs.Rank.{Shape}
 use Rattle.settling.specs.Book.{inside}
-use Rattle.settling.specs.Tally.{total, least}
+use Rattle.settling.specs.Tally.{Counters, leastFit, total, least}
 use Rattle.settling.proofs.Cases.{from-next, Limit, within, beyond, limit}
 use Rattle.settling.proofs.Settle.{Full}
-use Rattle.settling.proofs.Counters.{Counters, total-cons, counters-total}
+use Rattle.settling.proofs.Counters.{total-cons, counters-total}
 
 -- over a table of counters alone
 module _ (capacity : ℕ) (t : List ℕ) where
@@ -89,11 +89,34 @@ module _ {A : Type 0} (B : Shape A) where
     fits-at : c ≤ e → e ≤ top → length (inside B e s) ≤ capacity → ((x : ℕ) → c ≤ x → x < e → Full B s x) → Counted s c e
     fits-nowhere : e ≡ suc top → ((x : ℕ) → c ≤ x → x ≤ top → Full B s x) → Counted s c e
 
-  pub counted : (n c : ℕ) (t : List ℕ) (s : List A) → Counters B t s → n + c ≡ suc top → Counted s c (least capacity c (drop c t))
-  counted zero c t s w e =
-      let z : length t ≡ suc top = w .size in
-      rw (least-end capacity t c (omega arith)) (fits-nowhere (omega arith) (λ x p q. absurd (omega arith)))
-  counted (suc n) c t s w e = go (counted n (suc c) t s w (omega arith)) (limit (length (inside B c s)) capacity)
+  fit-none : (c : ℕ) (s : List A) → leastFit B zero c s ≡ c
+  unfolding leastFit
+  fit-none c s = refl
+
+  fit-here : (n c : ℕ) (s : List A) → length (inside B c s) ≤ capacity → leastFit B (suc n) c s ≡ c
+  unfolding leastFit
+  fit-here n c s h = rw (le-leb (length (inside B c s)) capacity h)
+
+  fit-next : (n c : ℕ) (s : List A) → capacity < length (inside B c s) → leastFit B (suc n) c s ≡ leastFit B n (suc c) s
+  unfolding leastFit
+  fit-next n c s h = rw (lt-leb (length (inside B c s)) capacity h)
+
+  pub counted : (n c : ℕ) (s : List A) → n + c ≡ suc top → Counted s c (leastFit B n c s)
+  counted zero c s e = rw (fit-none c s) (fits-nowhere (omega arith) (λ x p q. absurd (omega arith)))
+  counted (suc n) c s e = go (counted n (suc c) s (omega arith)) (limit (length (inside B c s)) capacity)
+    where
+      later : Full B s c → Counted s (suc c) (leastFit B n (suc c) s) → Counted s c (leastFit B n (suc c) s)
+      later h (fits-at p q f u) = fits-at (omega arith) q f (λ x k m. from-next (Full B s) c h x k (λ j. u x j m))
+      later h (fits-nowhere p u) = fits-nowhere p (λ x k m. from-next (Full B s) c h x k (λ j. u x j m))
+
+      go : Counted s (suc c) (leastFit B n (suc c) s) → Limit (length (inside B c s)) capacity → Counted s c (leastFit B (suc n) c s)
+      go ih (within h) = rw (fit-here n c s h) (fits-at (omega arith) (omega (arith, e)) h (λ x k m. absurd (omega arith)))
+      go ih (beyond h) = rw (fit-next n c s h) (later h ih)
+
+  -- the counters tell it
+  pub least-fit : (n c : ℕ) (t : List ℕ) (s : List A) → Counters B t s → n ≡ suc top - c → least capacity c (drop c t) ≡ leastFit B n c s
+  least-fit zero c t s w e = let z : length t ≡ suc top = w .size in least-end capacity t c (omega arith) ∙ sym (fit-none c s)
+  least-fit (suc n) c t s w e = go (least-fit n (suc c) t s w (omega arith)) (limit (length (inside B c s)) capacity)
     where
       many : total (drop c t) ≡ length (inside B c s)
       many = counters-total B n c t s w (omega arith)
@@ -101,10 +124,6 @@ module _ {A : Type 0} (B : Shape A) where
       inlist : c < length t
       inlist = let z : length t ≡ suc top = w .size in omega arith
 
-      later : Full B s c → Counted s (suc c) (least capacity (suc c) (drop (suc c) t)) → Counted s c (least capacity (suc c) (drop (suc c) t))
-      later h (fits-at p q f u) = fits-at (omega arith) q f (λ x k m. from-next (Full B s) c h x k (λ j. u x j m))
-      later h (fits-nowhere p u) = fits-nowhere p (λ x k m. from-next (Full B s) c h x k (λ j. u x j m))
-
-      go : Counted s (suc c) (least capacity (suc c) (drop (suc c) t)) → Limit (length (inside B c s)) capacity → Counted s c (least capacity c (drop c t))
-      go ih (within h) = rw (least-here capacity t c inlist (omega (arith, many, h))) (fits-at (omega arith) (omega (arith, e)) h (λ x k m. absurd (omega arith)))
-      go ih (beyond h) = rw (least-next capacity t c inlist (omega (arith, many, h))) (later h ih)
+      go : least capacity (suc c) (drop (suc c) t) ≡ leastFit B n (suc c) s → Limit (length (inside B c s)) capacity → least capacity c (drop c t) ≡ leastFit B (suc n) c s
+      go ih (within h) = least-here capacity t c inlist (omega (arith, many, h)) ∙ sym (fit-here n c s h)
+      go ih (beyond h) = least-next capacity t c inlist (omega (arith, many, h)) ∙ ih ∙ sym (fit-next n c s h)

@@ -4,7 +4,6 @@ use native.Mathlib.Omega.{arith}
 use lib.ListN.{take}
 use lib.Seq.{take-take, length-take-le}
 use Rattle.octets.specs.Number.{big}
-use Rattle.octets.proofs.Edits.{part-length}
 use Rattle.records.specs.Record.{slot, nearOf}
 use Rattle.book.specs.Layout.{depthIn, overlayIn}
 use Rattle.reserve.specs.Place.{PlaceIn}
@@ -14,23 +13,18 @@ use borrow.Author.Needs.{needs}
 use Rattle.reserve.proofs.enter.enter.Statement.{statement}
 use Rattle.reserve.proofs.enter.enter.Tie as tie
 
-near-requires : tie.Need-near-requires
-near-requires c κs =
-    let k = c .before .before .before .before in
-    (part-length (k .args .book .now) 8 32 (omega (arith, k .pre .formed .size)), k .pre .fits .size)
-
 returns : tie.Need-returns
 returns c =
     let d = c .before in
     let n = d .before .before in
-    let k = n .before .before .before .before .before in
-    let near : n .near .result ≡ nearOf (overlayIn (k .args .book .now)) (slot (k .args .given .now)) = n .near .ensures in
+    let k = n .before .before .before .before in
+    let near : n .near .result ≡ nearOf (overlayIn (k .args .book .now)) (slot (k .args .given .now)) = n .near .ensures ∙ Enters.near-there (k .args .book .now) (k .args .given .now) (k .pre) in
     let depth : d .depth .result ≡ depthIn (k .args .book .now) = d .depth .ensures in
     Enters.lies-outside (k .args .book .now) (k .args .given .now) (k .pre) (omega (arith, near, depth, c .if1 .taken))
 
 place-requires : tie.Need-place-requires
 place-requires c κs =
-    let k = c .before .before .before .before .before .before .before .before .before .before .before .before in
+    let k = c .before .before .before .before .before .before .before .before .before .before .before in
     let s = k .args .book .now in
     (k .pre .formed, c .before .before .count .ensures ∙ Fields.count-there s (omega (arith, k .pre .formed .size)), length-take-le 40 (k .args .given .now) (omega (arith, k .pre .fits .size)))
 
@@ -41,10 +35,10 @@ file-requires c κs =
     let e = n .before .before in
     let d = e .before in
     let m = d .before .before in
-    let k = m .before .before .before .before .before in
+    let k = m .before .before .before .before in
     let s = k .args .book .now in
     let r = k .args .given .now in
-    let near : m .near .result ≡ nearOf (overlayIn s) (slot r) = m .near .ensures in
+    let near : m .near .result ≡ nearOf (overlayIn s) (slot r) = m .near .ensures ∙ Enters.near-there s r (k .pre) in
     let depth : d .depth .result ≡ depthIn s = d .depth .ensures in
     let key : slot (take 40 r) ≡ slot r = ap big (take-take 40 40 r (omega arith)) in
     (record { awaits = k .pre; inside = omega (arith, near, depth, e .if1 .left); place = subst (λ x. PlaceIn s x (p .place .result)) key (p .place .ensures) }, n .count .ensures ∙ Fields.count-there s (omega (arith, k .pre .formed .size)))
@@ -56,10 +50,7 @@ pub enter-spec : {M : Type 1} → statement M
 enter-spec =
     tie.close
     (tie.spec
-    (λ c. search needs)
-    (λ c. search needs)
-    (λ c. search needs)
-    near-requires
+    (λ c κs. search needs)
     (λ c κs. search needs)
     (λ c. search needs)
     (λ c. search needs)

@@ -1,0 +1,7 @@
+-- What an offer does to the bytes of a book.
+pub mod Whole
+pub mod Near
+pub mod Least
+pub mod Keep
+pub mod Edit
+pub mod Determined

@@ -1,0 +1,6 @@
+// What an offer does to the bytes of a book: how near a record lies, the depth that the book rises to, and the edits.
+pub mod edit;
+pub mod keep;
+pub mod least;
+pub mod near;
+mod whole;
