@@ -2,7 +2,7 @@
 pub mod Bytes
 pub mod Numbers
 pub mod Ordered
-pub mod Edits
+pub mod Parts
 pub mod Joins
 pub mod Turns
 pub mod Pieces

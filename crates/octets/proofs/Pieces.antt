@@ -1,14 +1,12 @@
 -- Laws of pieces, over the width.
 use mathlib.Core.Path.{_≡_, refl, sym, ap, ap₂, _∙_}
-use mathlib.Core.List.{List, [], _∷_, _++_, append-assoc, append-nil}
+use mathlib.Core.List.{List, [], _∷_, _++_, append-nil}
 use Prim.Native.Nat.{ℕ, zero, suc, _+_, _-_, _*_, _≤_, _<_}
 use native.Mathlib.Nat.{add-zero, zero-add, suc-add, mul-zero}
 use native.Mathlib.Omega.{arith}
 use lib.ListN.{length, getD, take, drop, take-append-drop, length-drop}
 use lib.Seq.{drop-length, take-all, take-append-le, drop-append-le, drop-drop, length-take-le, take-add}
-use Rattle.octets.specs.Moving.{inserted}
 use Rattle.octets.specs.Pieces.{pieces}
-use Rattle.octets.proofs.Edits.{inserted-fits}
 
 module _ (w : ℕ) where
   pub pieces-none : (s : List ℕ) → pieces w 0 s ≡ []
@@ -90,31 +88,3 @@ module _ (w : ℕ) where
       let e : take (n + 1) l ≡ l = take-all (n + 1) l (omega (arith, length-pieces (n + 1) s)) in
       let f : drop (n + 1) l ≡ [] = ap (λ (m : ℕ). drop m l) (sym (length-pieces (n + 1) s)) ∙ drop-length l in
       sym e ∙ take-add n 1 l ∙ ap₂ _++_ (pieces-take n (n + 1) s (omega arith)) (ap (take 1) (pieces-from n (n + 1) s (omega arith)))
-
-  -- a piece put in at place j of the first e
-  pub pieces-inserted : (s p : List ℕ) (j e : ℕ) → j ≤ e → w * e + w ≤ length s → length p ≡ w
-      → pieces w (e + 1) (inserted s (w * j) (w * e) p) ≡ take j (pieces w e s) ++ (p ∷ drop j (pieces w e s))
-  pieces-inserted s p j e h k lp =
-      let d = e - j in
-      let total : e ≡ j + d = omega arith in
-      let wide : w * e ≡ w * j + w * d = ap (_*_ w) total ∙ omega arith in
-      let front = take (w * j) s in
-      let moved = take (w * e - w * j) (drop (w * j) s) in
-      let rest = drop (w * e + length p) s in
-      let width : w * e - w * j ≡ w * d = omega arith in
-      let long : w * d ≤ length (drop (w * j) s) = simp length-drop (omega arith) in
-      let lm : length moved ≡ w * d = ap (λ (m : ℕ). length (take m (drop (w * j) s))) width ∙ length-take-le (w * d) (drop (w * j) s) long in
-      let lf : length front ≡ w * j = length-take-le (w * j) s (omega arith) in
-      let whole : inserted s (w * j) (w * e) p ≡ front ++ (p ++ (moved ++ rest)) =
-      inserted-fits s (w * j) (w * e) p (omega arith) (omega arith) ∙ simp append-assoc in
-      let number : e + 1 ≡ j + (1 + d) = omega arith in
-      let first : pieces w j front ≡ take j (pieces w e s) = pieces-front j s (omega arith) ∙ sym (pieces-take j e s h) in
-      let last : pieces w d (moved ++ rest) ≡ drop j (pieces w e s) =
-      pieces-ahead d moved rest lm
-      ∙ ap (λ (m : ℕ). pieces w d (take m (drop (w * j) s))) width
-      ∙ pieces-front d (drop (w * j) s) long
-      ∙ sym (ap (λ (m : ℕ). drop j (pieces w m s)) total ∙ pieces-drop j d s) in
-      ap (pieces w (e + 1)) whole
-      ∙ ap (λ (m : ℕ). pieces w m (front ++ (p ++ (moved ++ rest)))) number
-      ∙ pieces-append j (1 + d) front (p ++ (moved ++ rest)) lf
-      ∙ ap₂ _++_ first (pieces-append 1 d p (moved ++ rest) (omega arith) ∙ ap₂ _++_ (pieces-one p lp) last)

@@ -2,6 +2,5 @@
 pub mod Bytes
 pub mod Order
 pub mod Number
-pub mod Moving
 pub mod Pieces
 pub mod Determined

@@ -1,4 +1,3 @@
-// Bytes: their order, numbers in them, and moves inside a lent buffer.
-pub mod moving;
+// Bytes: their order, and numbers in them.
 pub mod number;
 pub mod order;

@@ -1,10 +1,9 @@
-// Numbers of two, four and eight bytes, read from a buffer and written into one: big-endian, and little-endian where the name says so.
+// Numbers of two, four and eight bytes, read from a buffer: big-endian, and little-endian where the name says so.
 ghost use mathlib.Core.Path.{_≡_};
 ghost use mathlib.Core.List.{[], _∷_};
 ghost use Prim.Native.Nat.{_+_, _≤_};
 ghost use lib.ListN.{length};
-ghost use Rattle.octets.specs.Number.{big, bigAt, littleAt, bytesOf};
-ghost use Rattle.octets.specs.Moving.{placed};
+ghost use Rattle.octets.specs.Number.{big, bigAt, littleAt};
 
 // The number that stands in the two bytes of `s` from `at`, 0 where they are not there.
 pub fn read16(s: &[u8], at: usize) -> u16
@@ -58,27 +57,6 @@ pub fn read_little64(s: &[u8], at: usize) -> u64
     little_word(s, at)
 }
 
-// `n` as two bytes, over those of `s` from `at`; nothing is written where they are not there.
-pub fn write16(s: &mut [u8], at: usize, n: u16)
-    ensures { λ _. ⌜ now (s .exit) ≡ placed (now (s .entry)) at (bytesOf 2 n) ⌝ }
-{
-    write(s, at, 2, n as u64);
-}
-
-// `n` as four bytes, over those of `s` from `at`; nothing is written where they are not there.
-pub fn write32(s: &mut [u8], at: usize, n: u32)
-    ensures { λ _. ⌜ now (s .exit) ≡ placed (now (s .entry)) at (bytesOf 4 n) ⌝ }
-{
-    write(s, at, 4, n as u64);
-}
-
-// `n` as eight bytes, over those of `s` from `at`; nothing is written where they are not there.
-pub fn write64(s: &mut [u8], at: usize, n: u64)
-    ensures { λ _. ⌜ now (s .exit) ≡ placed (now (s .entry)) at (bytesOf 8 n) ⌝ }
-{
-    write(s, at, 8, n);
-}
-
 // The number of eight bytes that are there: no test, for callers that made it.
 pub(crate) fn word(s: &[u8], at: usize) -> u64
     requires { ⌜ at + 8 ≤ length (now s) ⌝ }
@@ -111,25 +89,6 @@ pub(crate) fn little_word(s: &[u8], at: usize) -> u64
         s[at + 1],
         s[at],
     )
-}
-
-// The last `width` bytes of `n`, over those of `s` from `at`; nothing is written where they are not there.
-fn write(s: &mut [u8], at: usize, width: usize, n: u64)
-    ensures { λ _. ⌜ now (s .exit) ≡ placed (now (s .entry)) at (bytesOf width n) ⌝ }
-{
-    if s.len() < at {
-        return;
-    }
-    if s.len() - at < width {
-        return;
-    }
-    let mut above = n;
-    let mut i = width;
-    while 0 < i {
-        i -= 1;
-        s[at + i] = (above % 256) as u8;
-        above = above / 256;
-    }
 }
 
 // Two bytes as one number. This flat form, here and below, is the one that compiles to a load and a byte swap.

@@ -1,25 +1,16 @@
 -- Laws of edits.
 use mathlib.Core.Path.{_≡_, refl, sym}
 use mathlib.Core.Bool.{Bool, true, false, cond, _&&_}
-use mathlib.Core.List.{List, [], _∷_, _++_, append-assoc, append-nil}
-use Prim.Native.Nat.{ℕ, zero, suc, _+_, _-_, _≤_, _<_}
-use native.Mathlib.Nat.{add-zero, zero-add, suc-add}
+use mathlib.Core.List.{List, [], _++_, append-assoc, append-nil}
+use Prim.Native.Nat.{ℕ, _+_, _-_, _≤_, _<_}
+use native.Mathlib.Nat.{add-zero}
 use native.Mathlib.Omega.{arith}
 use lib.Dec.{leb}
 use lib.ListN.{length, take, drop, take-append-drop, length-append, length-take, length-drop}
-use lib.Seq.{length-take-le, take-append-le, take-take, drop-drop, drop-at, take-append-seam, drop-append-add, take-add, take-nil}
+use lib.Seq.{length-take-le, take-append-le, take-take, drop-drop, drop-at, take-append-seam, drop-append-add, take-add}
 use borrow.Author.Tests.{le-leb, lt-leb, leb-true}
-use Rattle.octets.specs.Moving.{over, placed, lowered, raised, inserted}
-
--- parts of a list
-
-pub part-length : (s : List ℕ) (at n : ℕ) → at + n ≤ length s → length (take n (drop at s)) ≡ n
-part-length s at n h = simp (length-take, length-drop) (omega arith)
-
-pub part-of-take : (k n : ℕ) (s : List ℕ) → drop k (take (k + n) s) ≡ take n (drop k s)
-part-of-take zero n s = rw zero-add
-part-of-take (suc k) n [] = rw (take-nil {A = ℕ} (suc k + n), take-nil {A = ℕ} n)
-part-of-take (suc k) n (x ∷ s) = rw suc-add (part-of-take k n s)
+use Rattle.octets.proofs.Parts.{part-length}
+use Rattle.moving.specs.Moving.{over, placed, lowered, raised, inserted}
 
 -- what is written, and what is around it
 

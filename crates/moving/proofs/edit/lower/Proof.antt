@@ -5,10 +5,11 @@ use native.Mathlib.Omega.{arith}
 use borrow.Author.Needs.{needs}
 use lib.ListN.{length, take, drop, length-set}
 use lib.Seq.{paste, paste-zero}
-use Rattle.octets.proofs.Edits
-use Rattle.octets.proofs.Turns
-use Rattle.octets.proofs.moving.lower.Statement.{statement}
-use Rattle.octets.proofs.moving.lower.Tie as tie
+use Rattle.octets.proofs.Parts
+use Rattle.moving.proofs.Edits
+use Rattle.moving.proofs.Turns
+use Rattle.moving.proofs.edit.lower.Statement.{statement}
+use Rattle.moving.proofs.edit.lower.Tie as tie
 
 abbrev Inv-loop : tie.InvT-loop
 Inv-loop s₀ from to n i₀ s i = (i ≤ n) × (s ≡ paste s₀ to (take n (drop from s₀)) i) × (length s ≡ length s₀)
@@ -40,7 +41,7 @@ returns-4 c =
     let l = c .before in
     let a = l .before .before .before .before .args in
     let moved = take (a .n) (drop (a .from) (a .s .now)) in
-    let count : length moved ≡ a .n = Edits.part-length (a .s .now) (a .from) (a .n) (omega arith) in
+    let count : length moved ≡ a .n = Parts.part-length (a .s .now) (a .from) (a .n) (omega arith) in
     l .loop .inv .1 ∙ Turns.put-all (a .s .now) (a .to) moved (l .loop .i) (omega arith) ∙ sym (Edits.lowered-fits (a .s .now) (a .from) (a .to) (a .n) (omega arith) (omega arith))
 
 pub lower-spec : {M : Type 1} → statement M

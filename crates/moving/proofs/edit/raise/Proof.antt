@@ -4,10 +4,10 @@ use mathlib.Core.Path.{_≡_, refl, sym, ap, _∙_}
 use native.Mathlib.Omega.{arith}
 use borrow.Author.Needs.{needs}
 use lib.ListN.{length, length-set}
-use Rattle.octets.proofs.Edits
-use Rattle.octets.proofs.Turns
-use Rattle.octets.proofs.moving.raise.Statement.{statement}
-use Rattle.octets.proofs.moving.raise.Tie as tie
+use Rattle.moving.proofs.Edits
+use Rattle.moving.proofs.Turns
+use Rattle.moving.proofs.edit.raise.Statement.{statement}
+use Rattle.moving.proofs.edit.raise.Tie as tie
 
 abbrev Inv-loop : tie.InvT-loop
 Inv-loop s₀ at end n i₀ s i = (at ≤ i) × (i ≤ end) × (s ≡ Turns.up s₀ end n i) × (length s ≡ length s₀)

@@ -5,10 +5,10 @@ use native.Mathlib.Omega.{arith}
 use borrow.Author.Needs.{needs}
 use lib.ListN.{length, replicate, length-set, length-replicate}
 use lib.Seq.{paste, paste-zero}
-use Rattle.octets.proofs.Edits
-use Rattle.octets.proofs.Turns
-use Rattle.octets.proofs.moving.clear.Statement.{statement}
-use Rattle.octets.proofs.moving.clear.Tie as tie
+use Rattle.moving.proofs.Edits
+use Rattle.moving.proofs.Turns
+use Rattle.moving.proofs.edit.clear.Statement.{statement}
+use Rattle.moving.proofs.edit.clear.Tie as tie
 
 abbrev Inv-loop : tie.InvT-loop
 Inv-loop s₀ at n i₀ s i = (i ≤ n) × (s ≡ paste s₀ at (replicate n 0) i) × (length s ≡ length s₀)

@@ -1,7 +1,7 @@
 // Edits of a lent buffer in place. Where an edit does not fit, nothing changes.
 ghost use mathlib.Core.Path.{_≡_};
 ghost use lib.ListN.{replicate};
-ghost use Rattle.octets.specs.Moving.{placed, lowered, raised, inserted};
+ghost use Rattle.moving.specs.Moving.{placed, lowered, raised, inserted};
 
 // The bytes of `v`, over those of `s` from `at`.
 pub fn put(s: &mut [u8], at: usize, v: &[u8])

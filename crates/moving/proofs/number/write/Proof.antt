@@ -4,13 +4,13 @@ use mathlib.Core.Path.{_≡_, sym, ap, _∙_}
 use native.Mathlib.Omega.{arith}
 use borrow.Author.Needs.{needs}
 use lib.ListN.{length, length-set}
 use Rattle.octets.specs.Number.{bytesOf}
-use Rattle.octets.specs.Moving.{over}
-use Rattle.octets.proofs.Edits
 use Rattle.octets.proofs.Numbers
-use Rattle.octets.proofs.Turns
-use Rattle.octets.proofs.number.write.Statement.{statement}
-use Rattle.octets.proofs.number.write.Tie as tie
+use Rattle.moving.specs.Moving.{over}
+use Rattle.moving.proofs.Edits
+use Rattle.moving.proofs.Turns
+use Rattle.moving.proofs.number.write.Statement.{statement}
+use Rattle.moving.proofs.number.write.Tie as tie
 
 abbrev Inv-loop : tie.InvT-loop
 Inv-loop s₀ at width n above₀ i₀ s above i = (i ≤ width) × (over s at (bytesOf i above) ≡ over s₀ at (bytesOf width n)) × (length s ≡ length s₀)

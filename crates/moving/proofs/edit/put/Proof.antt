@@ -5,10 +5,10 @@ use native.Mathlib.Omega.{arith}
 use borrow.Author.Needs.{needs}
 use lib.ListN.{length, length-set}
 use lib.Seq.{paste, paste-zero}
-use Rattle.octets.proofs.Edits
-use Rattle.octets.proofs.Turns
-use Rattle.octets.proofs.moving.put.Statement.{statement}
-use Rattle.octets.proofs.moving.put.Tie as tie
+use Rattle.moving.proofs.Edits
+use Rattle.moving.proofs.Turns
+use Rattle.moving.proofs.edit.put.Statement.{statement}
+use Rattle.moving.proofs.edit.put.Tie as tie
 
 abbrev Inv-loop : tie.InvT-loop
 Inv-loop s₀ at v i₀ s i = (i ≤ length v) × (s ≡ paste s₀ at v i) × (length s ≡ length s₀)

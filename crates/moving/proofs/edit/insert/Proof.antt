@@ -2,10 +2,10 @@
 use borrow.Author.Needs.{needs}
 use mathlib.Core.Path.{sym, ap, _∙_}
 use native.Mathlib.Omega.{arith}
-use Rattle.octets.specs.Moving.{placed}
-use Rattle.octets.proofs.Edits
-use Rattle.octets.proofs.moving.insert.Statement.{statement}
-use Rattle.octets.proofs.moving.insert.Tie as tie
+use Rattle.moving.specs.Moving.{placed}
+use Rattle.moving.proofs.Edits
+use Rattle.moving.proofs.edit.insert.Statement.{statement}
+use Rattle.moving.proofs.edit.insert.Tie as tie
 
 returns : tie.Need-returns
 returns c = let a = c .before .before .before .args in sym (Edits.inserted-down (a .s .now) (a .at) (a .end) (a .v .now) (omega arith))
