@@ -5,5 +5,4 @@ pub mod Search
 pub mod Ruled
 pub mod InOrder
 pub mod Slots
-pub mod Signed
 pub mod Theorems

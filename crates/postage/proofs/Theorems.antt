@@ -2,20 +2,17 @@
 use mathlib.Core.Path.{_≡_, refl, sym, ap, _∙_}
 use mathlib.Core.Bool.{true}
 use mathlib.Core.Logic.{_⊎_, inl, inr, _↔_}
-use mathlib.Core.List.{List, [], _++_}
+use mathlib.Core.List.{List, []}
 use Prim.Native.Nat.{ℕ, _^_, _≤_, _<_, min}
 use native.Mathlib.Omega.{arith}
-use lib.ListN.{length, take, length-append}
-use lib.Seq.{length-take-le}
+use lib.ListN.{length, take}
 use Rattle.octets.specs.Bytes.{Bytes}
-use Rattle.keccak.specs.Collision.{Collision}
 use Rattle.nearness.specs.Bits.{bits, bitsOf, sharedBits}
 use Rattle.nearness.proofs.Shared.{same-start, together}
 use Rattle.postage.specs.declared.rules.StampAnswer.{StampAnswer}
 use Rattle.postage.specs.declared.rules.StampAnswer.the-variants.{Passes}
 use Rattle.postage.specs.Batch.{idOf, count, batchAt, WellListed, Listed, records, wellListed, find}
-use Rattle.postage.specs.Stamp.{stampLength, batchIn, indexIn, slotIn, bucketOf, Bucketed}
-use Rattle.postage.specs.Digest.{lead, covered, ownerSigns, hashed, stampDigest}
+use Rattle.postage.specs.Stamp.{batchIn, indexIn, slotIn, bucketOf, Bucketed}
 use Rattle.postage.specs.Rules.{checked}
 use Rattle.postage.specs.InOrder.{Kept, Given}
 use Rattle.postage.proofs.Records.{length-batchAt}
@@ -23,7 +20,6 @@ use Rattle.postage.proofs.Listed.{well-listed-sound, well-listed-comple
 use Rattle.postage.proofs.Search.{find-cases, find-absent, find-held}
 use Rattle.postage.proofs.InOrder.{in-order}
 use Rattle.postage.proofs.Slots.{slot-bucket, bucket-start, bucket-bits, most-slots}
-use Rattle.postage.proofs.Signed.{one-digest}
 
 -- ---- the batch list
 
@@ -85,23 +81,3 @@ pub one-slot-together : (address stamp address′ stamp′ : List ℕ) → Bucke
 one-slot-together address stamp address′ stamp′ b b′ e overlay depth h =
     let start = one-slot-one-start address stamp address′ stamp′ b b′ e in
     (together address address′ overlay start depth h, together address′ address overlay (sym start) depth h)
-
--- ---- the digest that the owner signs
-
--- it does not look at the signature
-pub signature-is-not-covered : (address stamp stamp′ : List ℕ) → length stamp ≡ length stamp′ → take 48 stamp ≡ take 48 stamp′ → stampDigest address stamp ≡ stampDigest address stamp′
-unfolding stampDigest ownerSigns covered
-signature-is-not-covered address stamp stamp′ h e = rw (h, e)
-
--- 28 bytes go before the inner hash, which is over 80
-pub lead-length : length lead ≡ 28
-lead-length = refl
-
-pub covered-length : (address stamp : List ℕ) → length address ≡ 32 → length stamp ≡ stampLength → length (covered address stamp) ≡ 80
-unfolding covered
-covered-length address stamp h k = length-append address (take 48 stamp) ∙ omega (arith, length-take-le 48 stamp (omega arith))
-
--- one digest is of one address and stamp, up to the signature, or two messages with one digest are exhibited, among the four hashed
-pub one-digest-one-stamp : (address stamp address′ stamp′ : List ℕ) → ownerSigns address stamp ≡ ownerSigns address′ stamp′
-    → (covered address stamp ≡ covered address′ stamp′) ⊎ Collision (hashed address stamp ++ hashed address′ stamp′)
-one-digest-one-stamp = one-digest

@@ -3,11 +3,8 @@ use mathlib.Core.Path.{_≡_, sym, _∙_}
 use mathlib.Core.Bool.{Bool}
 use mathlib.Core.List.{List}
 use Prim.Native.Nat.{ℕ}
-use Rattle.postage.specs.declared.digest.DigestAnswer.{DigestAnswer}
-use Rattle.postage.specs.declared.digest.StampDigested.{StampDigested}
 use Rattle.postage.specs.declared.rules.StampAnswer.{StampAnswer}
 use Rattle.postage.specs.Batch.{wellListed}
-use Rattle.postage.specs.Digest.{digestNumber, stampDigest}
 use Rattle.postage.specs.Rules.{stampNumber, checked}
 
 pub check-batches-determined : (batches : List ℕ) (r r′ : Bool) → r ≡ wellListed batches → r′ ≡ wellListed batches → r ≡ r′
@@ -18,9 +15,3 @@ check-stamp-determined batches address stamp account r r′ p q = p ∙ sym q
 
 pub stamp-number-determined : (answer : StampAnswer) (r r′ : ℕ) → r ≡ stampNumber answer → r′ ≡ stampNumber answer → r ≡ r′
 stamp-number-determined answer r r′ p q = p ∙ sym q
-
-pub stamp-digest-determined : (address stamp : List ℕ) (r r′ : StampDigested) → r ≡ stampDigest address stamp → r′ ≡ stampDigest address stamp → r ≡ r′
-stamp-digest-determined address stamp r r′ p q = p ∙ sym q
-
-pub digest-number-determined : (answer : DigestAnswer) (r r′ : ℕ) → r ≡ digestNumber answer → r′ ≡ digestNumber answer → r ≡ r′
-digest-number-determined answer r r′ p q = p ∙ sym q

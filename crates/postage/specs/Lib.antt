@@ -1,8 +1,6 @@
 -- What the contracts of this crate and of those above it cite, and the statements that a reader looks for.
 pub mod Batch
 pub mod Stamp
-pub mod Digest
 pub mod Rules
 pub mod InOrder
 pub mod Determined
-pub mod Refused

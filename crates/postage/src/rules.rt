@@ -86,10 +86,13 @@ fn judge(batches: &[u8], at: usize, address: &[u8], stamp: &[u8], account: &[u8]
     if !in_bucket(address, stamp) {
         return StampAnswer::OtherBucket;
     }
-    if !in_slots(batch, stamp) {
+    // Index and account are asked before either answers: which comes first is said by the two tests alone.
+    let below = in_slots(batch, stamp);
+    let owned = is_owner(batch, account);
+    if !below {
         return StampAnswer::IndexPast;
     }
-    if !is_owner(batch, account) {
+    if !owned {
         return StampAnswer::NotOwner;
     }
     StampAnswer::Passes

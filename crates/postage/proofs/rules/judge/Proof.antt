@@ -36,31 +36,17 @@ in-slots-requires c κs =
     let is = f .record-from .ensures ∙ k .pre .2 in
     held (k .args .batches .now) (take 32 (k .args .stamp .now)) (f .record-from .result .now) (k .pre .1) is (c .before .before .if1 .left)
 
+is-owner-requires : tie.Need-is-owner-requires
+is-owner-requires c κs =
+    let f = c .before .before .before .before in
+    let k = f .before .before .before .before .before in
+    let is = f .record-from .ensures ∙ k .pre .2 in
+    held (k .args .batches .now) (take 32 (k .args .stamp .now)) (f .record-from .result .now) (k .pre .1) is (c .before .before .before .if1 .left)
+
 returns-3 : tie.Need-returns-3
 unfolding rules
 returns-3 c =
-    let b = c .before .before .before in
-    let f = b .before .before in
-    let k = f .before .before .before .before .before in
-    let is = f .record-from .ensures ∙ k .pre .2 in
-    rw (
-      ← is,
-      lt-ltb 0 (length (f .record-from .result .now)) (pos-of-ne-zero (b .before .if1 .left)),
-      sym (b .in-bucket .ensures) ∙ not-false _ (c .before .before .if2 .left),
-      sym (c .before .in-slots .ensures) ∙ not-true _ (c .if3 .taken),
-    )
-
-is-owner-requires : tie.Need-is-owner-requires
-is-owner-requires c κs =
-    let f = c .before .before .before .before .before in
-    let k = f .before .before .before .before .before in
-    let is = f .record-from .ensures ∙ k .pre .2 in
-    held (k .args .batches .now) (take 32 (k .args .stamp .now)) (f .record-from .result .now) (k .pre .1) is (c .before .before .before .before .if1 .left)
-
-returns-4 : tie.Need-returns-4
-unfolding rules
-returns-4 c =
-    let s = c .before .before .before in
+    let s = c .before .before in
     let b = s .before .before in
     let f = b .before .before in
     let k = f .before .before .before .before .before in
@@ -69,14 +55,31 @@ returns-4 c =
       ← is,
       lt-ltb 0 (length (f .record-from .result .now)) (pos-of-ne-zero (b .before .if1 .left)),
       sym (b .in-bucket .ensures) ∙ not-false _ (s .before .if2 .left),
-      sym (s .in-slots .ensures) ∙ not-false _ (c .before .before .if3 .left),
-      sym (c .before .is-owner .ensures) ∙ not-true _ (c .if4 .taken),
+      sym (s .in-slots .ensures) ∙ not-true (s .in-slots .result) (c .if3 .taken),
+    )
+
+returns-4 : tie.Need-returns-4
+unfolding rules
+returns-4 c =
+    let o = c .before .before in
+    let s = o .before in
+    let b = s .before .before in
+    let f = b .before .before in
+    let k = f .before .before .before .before .before in
+    let is = f .record-from .ensures ∙ k .pre .2 in
+    rw (
+      ← is,
+      lt-ltb 0 (length (f .record-from .result .now)) (pos-of-ne-zero (b .before .if1 .left)),
+      sym (b .in-bucket .ensures) ∙ not-false _ (s .before .if2 .left),
+      sym (s .in-slots .ensures) ∙ not-false (s .in-slots .result) (c .before .if3 .left),
+      sym (o .is-owner .ensures) ∙ not-true (o .is-owner .result) (c .if4 .taken),
     )
 
 returns-5 : tie.Need-returns-5
 unfolding rules
 returns-5 c =
-    let s = c .before .before .before in
+    let o = c .before .before in
+    let s = o .before in
     let b = s .before .before in
     let f = b .before .before in
     let k = f .before .before .before .before .before in
@@ -85,8 +88,8 @@ returns-5 c =
       ← is,
       lt-ltb 0 (length (f .record-from .result .now)) (pos-of-ne-zero (b .before .if1 .left)),
       sym (b .in-bucket .ensures) ∙ not-false _ (s .before .if2 .left),
-      sym (s .in-slots .ensures) ∙ not-false _ (c .before .before .if3 .left),
-      sym (c .before .is-owner .ensures) ∙ not-false _ (c .if4 .left),
+      sym (s .in-slots .ensures) ∙ not-false (s .in-slots .result) (c .before .if3 .left),
+      sym (o .is-owner .ensures) ∙ not-false (o .is-owner .result) (c .if4 .left),
     )
 
 pub judge-spec : {M : Type 1} → statement M
@@ -98,7 +101,7 @@ judge-spec =
     (λ c κs. search needs)
     returns-2
     in-slots-requires
-    returns-3
     is-owner-requires
+    returns-3
     returns-4
     returns-5)

@@ -5,12 +5,12 @@ use Prim.Native.Nat.{ℕ}
 use borrow.Author.Needs.{needs}
 use borrow.Author.Tests.{eq-eqb, ne-eqb}
 use lib.ListN.{length}
-use Rattle.postage.specs.declared.digest.StampDigested.{StampDigested}
-use Rattle.postage.specs.declared.digest.DigestAnswer.the-variants.{Done}
 use Rattle.postage.specs.Stamp.{stampLength}
-use Rattle.postage.specs.Digest.{signed, covered, ownerSigns, stampDigest}
-use Rattle.postage.proofs.digest.stamp_digest.Statement.{statement}
-use Rattle.postage.proofs.digest.stamp_digest.Tie as tie
+use Rattle.signing.specs.declared.digest.StampDigested.{StampDigested}
+use Rattle.signing.specs.declared.digest.DigestAnswer.the-variants.{Done}
+use Rattle.signing.specs.Digest.{signed, covered, ownerSigns, stampDigest}
+use Rattle.signing.proofs.digest.stamp_digest.Statement.{statement}
+use Rattle.signing.proofs.digest.stamp_digest.Tie as tie
 
 abbrev done : List ℕ → StampDigested
 done digest = record { answer = Done; digest = digest }

@@ -7,10 +7,10 @@ use Prim.Native.String.{String, [] as none, _∷_ as _then_}
 use lib.Dec.{eqb}
 use lib.ListN.{length, take, replicate}
 use Rattle.keccak.specs.Hash.{keccak256}
-use Rattle.postage.specs.declared.digest.DigestAnswer.{DigestAnswer}
-use Rattle.postage.specs.declared.digest.DigestAnswer.the-variants.{Done, WrongLength}
-use Rattle.postage.specs.declared.digest.StampDigested.{StampDigested}
 use Rattle.postage.specs.Stamp.{stampLength}
+use Rattle.signing.specs.declared.digest.DigestAnswer.{DigestAnswer}
+use Rattle.signing.specs.declared.digest.DigestAnswer.the-variants.{Done, WrongLength}
+use Rattle.signing.specs.declared.digest.StampDigested.{StampDigested}
 
 -- a text's letters as bytes
 abbrev pub letters : String → List ℕ

@@ -8,7 +8,7 @@ use Rattle.octets.specs.Order.{byteOrder}
 use Rattle.octets.proofs.Ordered.{less-not-same, order-self, order-total}
 use Rattle.keccak.specs.Hash.{keccak256}
 use Rattle.keccak.specs.Collision.{Collision}
-use Rattle.postage.specs.Digest.{lead, signed, covered, ownerSigns, hashed}
+use Rattle.signing.specs.Digest.{lead, signed, covered, ownerSigns, hashed}
 
 -- strings are equal or not
 same-or-not : (a b : List ℕ) → (a ≡ b) ⊎ (a ≡ b → ⊥)

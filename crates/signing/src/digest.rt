@@ -3,7 +3,7 @@ use keccak::Sponge;
 ghost use mathlib.Core.Path.{_≡_};
 ghost use mathlib.Core.List.{_++_};
 ghost use Rattle.keccak.specs.Hash.{keccak256};
-ghost use Rattle.postage.specs.Digest.{signed, digestNumber, refused, stampDigest};
+ghost use Rattle.signing.specs.Digest.{signed, digestNumber, refused, stampDigest};
 
 pub enum DigestAnswer {
     Done,

@@ -1,4 +1,4 @@
--- A number from 10 up is a refusal: it hands back zeros for a digest. The calls of this crate are lent nothing to write.
+-- A number from 10 up is a refusal: it hands back zeros for a digest. The calls of stamps are lent nothing to write.
 use mathlib.Core.Bool.{Bool, true, false, cond, _&&_}
 use mathlib.Core.List.{List}
 use mathlib.Core.Path.{_≡_, refl, sym, subst}
@@ -6,10 +6,10 @@ use Prim.Native.Nat.{ℕ, _≤_}
 use native.Mathlib.Omega.{arith}
 use lib.Dec.{eqb}
 use lib.ListN.{length, replicate}
-use Rattle.postage.specs.declared.digest.DigestAnswer.the-variants.{Done, WrongLength}
-use Rattle.postage.specs.declared.digest.StampDigested.{StampDigested}
 use Rattle.postage.specs.Stamp.{stampLength}
-use Rattle.postage.specs.Digest.{ownerSigns, digestNumber, refused, stampDigest}
+use Rattle.signing.specs.declared.digest.DigestAnswer.the-variants.{Done, WrongLength}
+use Rattle.signing.specs.declared.digest.StampDigested.{StampDigested}
+use Rattle.signing.specs.Digest.{ownerSigns, digestNumber, refused, stampDigest}
 
 abbrev Zeros : StampDigested → Type 0
 Zeros r = 10 ≤ digestNumber (r .answer) → r .digest ≡ replicate 32 0

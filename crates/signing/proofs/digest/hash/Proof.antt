@@ -3,8 +3,8 @@ use mathlib.Core.List.{[], _++_}
 use borrow.Author.Needs.{needs}
 use Rattle.octets.proofs.Bytes.{bytes-append, bytes-known}
 use Rattle.keccak.proofs.Theorems.{holds-new, holds-absorb, holds-finish}
-use Rattle.postage.proofs.digest.hash.Statement.{statement}
-use Rattle.postage.proofs.digest.hash.Tie as tie
+use Rattle.signing.proofs.digest.hash.Statement.{statement}
+use Rattle.signing.proofs.digest.hash.Tie as tie
 
 returns : tie.Need-returns
 returns c =

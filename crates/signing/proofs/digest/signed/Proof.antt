@@ -1,8 +1,8 @@
 -- The lead goes in first.
 use borrow.Author.Needs.{needs}
-use Rattle.postage.specs.Digest.{signed}
-use Rattle.postage.proofs.digest.signed.Statement.{statement}
-use Rattle.postage.proofs.digest.signed.Tie as tie
+use Rattle.signing.specs.Digest.{signed}
+use Rattle.signing.proofs.digest.signed.Statement.{statement}
+use Rattle.signing.proofs.digest.signed.Tie as tie
 
 returns : tie.Need-returns
 unfolding signed
