@@ -4,4 +4,3 @@ pub mod Lane
 pub mod Step
 pub mod Textbook
 pub mod Theorems
-pub mod Empty

@@ -1,0 +1,2 @@
+-- Known answers, computed from the definition.
+pub mod Empty
