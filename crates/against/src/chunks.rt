@@ -36,15 +36,15 @@ fn anchored_address(rest: &[u8], came: &mut [u8]) -> usize {
 }
 
 fn segment_count(rest: &[u8], came: &mut [u8]) -> usize {
-    write64(came, 0, chunk::segment_count(field(rest, 0)) as u64);
+    write64(came, 0, segments::segment_count(field(rest, 0)) as u64);
     8
 }
 
 fn segment(rest: &[u8], came: &mut [u8]) -> usize {
     let whole = field(rest, 0);
     let index = read64(field(rest, 1), 0);
-    let part = chunk::segment(whole, index);
-    write64(came, 0, chunk::segment_start(whole, index) as u64);
+    let part = segments::segment(whole, index);
+    write64(came, 0, segments::segment_start(whole, index) as u64);
     put(came, 8, part);
     lent_end(came.len(), 8, part.len())
 }
@@ -57,14 +57,14 @@ fn make_proof(rest: &[u8], came: &mut [u8]) -> usize {
         return 0;
     }
     put(came, 4, proof);
-    let answer = chunk::make_proof(field(rest, 0), field(rest, 1), index, &mut came[4..end]);
+    let answer = proving::make_proof(field(rest, 0), field(rest, 1), index, &mut came[4..end]);
     write32(came, 0, answer.number());
     end
 }
 
 fn check_proof(rest: &[u8], came: &mut [u8]) -> usize {
     let index = read64(field(rest, 1), 0);
-    let answer = chunk::check_proof(field(rest, 0), index, field(rest, 2));
+    let answer = verifying::check_proof(field(rest, 0), index, field(rest, 2));
     write32(came, 0, answer.number());
     4
 }

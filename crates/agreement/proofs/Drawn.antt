@@ -4,7 +4,7 @@ use mathlib.Core.List.{List, [], map, List·Memᴰ, Memᴰ·map, Memᴰ·of-map}
 use Prim.Native.Nat.{ℕ, _*_}
 use native.Mathlib.Omega.{arith}
 use lib.ListN.{length}
-use Rattle.chunk.specs.Tree.{addressOf}
+use Rattle.merkle.specs.Tree.{addressOf}
 use Rattle.records.specs.Record.{addressIn}
 use Rattle.book.specs.Layout.{recordsIn}
 use Rattle.draw.specs.declared.answer.DrawAnswer.{DrawAnswer}

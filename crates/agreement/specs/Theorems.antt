@@ -7,7 +7,7 @@ use Prim.Native.Nat.{ℕ, _+_, _*_, _≤_}
 use lib.ListN.{length}
 use Rattle.octets.specs.Bytes.{Bytes}
 use Rattle.keccak.specs.Collision.{Collision}
-use Rattle.chunk.specs.Tree.{addressOf}
+use Rattle.merkle.specs.Tree.{addressOf}
 use Rattle.settling.specs.Meaning.{Each}
 use Rattle.records.specs.Record.{addressIn}
 use Rattle.book.specs.Layout.{recordsIn}

@@ -1,12 +1,9 @@
 // Addresses, plain and anchored.
-use crate::tree::hash;
-use crate::tree::root;
-use crate::tree::roots;
+use tree::hash;
+use tree::root_of;
 ghost use mathlib.Core.Path.{_≡_};
 ghost use mathlib.Core.List.{[]};
-ghost use Prim.Native.Nat.{_≤_};
-ghost use lib.ListN.{length};
-ghost use Rattle.chunk.specs.Tree.{padTo, root, addressOf};
+ghost use Rattle.merkle.specs.Tree.{addressOf};
 ghost use Rattle.chunk.specs.Answer.{addressNumber, refused, addressed, anchoredAddressed};
 
 pub enum AddressAnswer {
@@ -79,21 +76,8 @@ fn address_over(prefix: &[u8], span: &[u8], data: &[u8]) -> Addressed
 
 // The hash of span, then root.
 fn digest(prefix: &[u8], span: &[u8], data: &[u8]) -> [u8; 32]
-    requires { ⌜ length (now «data») ≤ 4096 ⌝ }
     ensures { λ r. ⌜ r ≡ addressOf (now (prefix .entry)) (now (span .entry)) (now («data» .entry)) ⌝ }
 {
-    let top = top_root(prefix, data);
+    let top = root_of(prefix, data, 7);
     hash(prefix, span, &top)
-}
-
-// The root of a chunk's data. Full data has no half of zeros, and need not pay for one.
-fn top_root(prefix: &[u8], data: &[u8]) -> [u8; 32]
-    requires { ⌜ length (now «data») ≤ 4096 ⌝ }
-    ensures { λ r. ⌜ r ≡ root (now (prefix .entry)) 7 (padTo 4096 (now («data» .entry))) ⌝ }
-{
-    if data.len() == 4096 {
-        return root(prefix, data, 7);
-    }
-    let both = roots(prefix, data, 7);
-    both.part
 }

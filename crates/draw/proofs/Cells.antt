@@ -14,11 +14,11 @@ use Rattle.octets.specs.Moving.{over, placed}
 use Rattle.octets.specs.declared.order.Order.{Order}
 use Rattle.octets.proofs.Numbers.{bigAt-fits}
 use Rattle.octets.proofs.Edits.{placed-fits, length-over}
-use Rattle.chunk.specs.Tree.{addressOf}
+use Rattle.merkle.specs.Tree.{addressOf}
 use Rattle.chunk.specs.Answer.{addressed, anchoredAddressed}
 use Rattle.chunk.specs.declared.addresses.Addressed.{Addressed}
 use Rattle.chunk.proofs.Answers.{addressed-done, anchored-addressed-done}
-use Rattle.chunk.proofs.Theorems.{address-length}
+use Rattle.merkle.proofs.Theorems.{address-length}
 use Rattle.wellformed.specs.declared.check.BookAnswer.the-variants as Checked
 use Rattle.book.specs.Layout.{stateIn}
 use Rattle.wellformed.specs.Check.{wellFormed, checked, bookNumber}

@@ -9,7 +9,7 @@ use lib.ListN.{length, replicate}
 use borrow.Author.Tests.{lt-ltb, le-ltb}
 use Rattle.octets.specs.Pieces.{pieces}
 use Rattle.octets.proofs.Pieces.{length-pieces}
-use Rattle.chunk.specs.Tree.{addressOf}
+use Rattle.merkle.specs.Tree.{addressOf}
 use Rattle.chunk.specs.Answer.{addressed}
 use Rattle.chunk.specs.declared.addresses.Addressed.{Addressed}
 use Rattle.chunk.proofs.Answers.{addressed-done}

@@ -6,11 +6,11 @@ use Prim.Native.Nat.{ℕ, _+_, _-_, _*_, _≤_}
 use native.Mathlib.Omega.{arith}
 use lib.ListN.{length, take, drop, replicate, length-append, length-take, length-drop, take-append-drop}
 use Rattle.keccak.specs.Collision.{Collision}
-use Rattle.chunk.specs.Tree.{padTo, addressOf}
-use Rattle.chunk.proofs.Theorems.{address-length}
-use Rattle.chunk.proofs.Halves.{pad-behind}
-use Rattle.chunk.proofs.Roots.{chunk-same}
-use Rattle.chunk.proofs.Collide.{Among, first-same, second-same, _>>=_}
+use Rattle.merkle.specs.Tree.{padTo, addressOf}
+use Rattle.merkle.proofs.Theorems.{address-length}
+use Rattle.merkle.proofs.Halves.{pad-behind}
+use Rattle.merkle.proofs.Roots.{chunk-same}
+use Rattle.merkle.proofs.Collide.{Among, first-same, second-same, _>>=_}
 use Rattle.draw.specs.Shelf.{Cell, ownAddress, pairOf}
 use Rattle.draw.specs.Sample.{addressFirst, written, sampleSpan, commitmentOf, commitmentHashed}
 

@@ -14,9 +14,9 @@ use Rattle.octets.specs.declared.order.Order.{Order}
 use Rattle.octets.specs.declared.order.Order.the-variants as Ordered
 use Rattle.octets.proofs.Ordered.{same-equal}
 use Rattle.keccak.specs.Collision.{Collision}
-use Rattle.chunk.specs.Tree.{padTo, hash, root, addressOf}
-use Rattle.chunk.proofs.Roots.{chunk-same, address-is}
-use Rattle.chunk.proofs.Collide.{Among, among-left, among-right, _>>=_}
+use Rattle.merkle.specs.Tree.{padTo, hash, root, addressOf}
+use Rattle.merkle.proofs.Roots.{chunk-same, address-is}
+use Rattle.merkle.proofs.Collide.{Among, among-left, among-right, _>>=_}
 use Rattle.draw.specs.declared.answer.DrawAnswer.{DrawAnswer}
 use Rattle.draw.specs.declared.answer.DrawAnswer.the-variants.{Done, NotWellFormed, Overfull, WrongLength, ShelfEnds, TooLong, Mismatch, Left, TooFew}
 use Rattle.draw.specs.Answer.{drawNumber, andThen}

@@ -5,7 +5,7 @@ use mathlib.Core.List.{List, [], _++_, map}
 use Prim.Native.Nat.{ℕ}
 use lib.ListN.{length}
 use Rattle.keccak.specs.Collision.{Collision}
-use Rattle.chunk.proofs.Collide.{Among, among-left, among-right, _>>=_}
+use Rattle.merkle.proofs.Collide.{Among, among-left, among-right, _>>=_}
 use Rattle.draw.specs.declared.answer.DrawAnswer.the-variants.{Done}
 use Rattle.draw.specs.Shelf.{Cell, ownAddress, pairOf, cellsHashed, cellsOn, shelfAnswer}
 use Rattle.draw.specs.Sample.{sixteen, written, commitmentOf, commitmentHashed}

@@ -6,7 +6,7 @@ use lib.ListN.{length, take, drop}
 use Rattle.octets.specs.Order.{byteOrder}
 use Rattle.octets.specs.declared.order.Order.{Order}
 use Rattle.octets.specs.declared.order.Order.the-variants.{Less, Same, More}
-use Rattle.chunk.specs.Tree.{addressOf, addressHashed}
+use Rattle.merkle.specs.Tree.{addressOf, addressHashed}
 
 -- ---- the sixteen
 

@@ -8,7 +8,7 @@ use Rattle.octets.specs.Number.{big}
 use Rattle.octets.specs.Order.{byteOrder}
 use Rattle.octets.specs.declared.order.Order.{Order}
 use Rattle.octets.specs.declared.order.Order.the-variants as Ordered
-use Rattle.chunk.specs.Tree.{addressOf, addressHashed}
+use Rattle.merkle.specs.Tree.{addressOf, addressHashed}
 use Rattle.draw.specs.declared.answer.DrawAnswer.{DrawAnswer}
 use Rattle.draw.specs.declared.answer.DrawAnswer.the-variants.{Done, ShelfEnds, TooLong, Mismatch, Left}
 use Rattle.draw.specs.Answer.{andThen}

@@ -5,7 +5,7 @@ use Prim.Native.Nat.{ℕ}
 use lib.ListN.{length, replicate}
 use Rattle.octets.specs.Number.{bytesOf}
 use Rattle.keccak.specs.Hash.{blockCount}
-use Rattle.chunk.specs.Segment.{segmentCount, segmentOf}
+use Rattle.merkle.specs.Segment.{segmentCount, segmentOf}
 use Rattle.nearness.specs.declared.near.Near.the-variants.{Bits}
 use Rattle.nearness.specs.Near.{nearnessOf}
 use Rattle.postage.specs.Stamp.{bucketOf}

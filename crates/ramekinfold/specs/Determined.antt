@@ -6,9 +6,11 @@ use lib.ListN.{length}
 use Rattle.keccak.specs.declared.sponge.Sponge.{Sponge}
 use Rattle.keccak.specs.Hash.{keccak256}
 use Rattle.keccak.specs.Sponge.{fresh, usable, absorbed, finished}
-use Rattle.chunk.specs.Answer.{addressed, anchoredAddressed, madeNumber, made, written, checkedNumber, checked}
-use Rattle.chunk.specs.Segment.{segmentCount, segmentStart, segmentOf}
-use Rattle.chunk.specs.Proof.{proofOf}
+use Rattle.chunk.specs.Answer.{addressed, anchoredAddressed}
+use Rattle.proving.specs.Answer.{madeNumber, made, written}
+use Rattle.verifying.specs.Answer.{checkedNumber, checked}
+use Rattle.merkle.specs.Segment.{segmentCount, segmentStart, segmentOf}
+use Rattle.merkle.specs.Proof.{proofOf}
 use Rattle.nearness.specs.Near.{nearnessOf}
 use Rattle.postage.specs.Digest.{stampDigest}
 use Rattle.postage.specs.Rules.{stampNumber, checked as stampChecked}

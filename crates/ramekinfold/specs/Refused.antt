@@ -7,7 +7,7 @@ use Prim.Native.Nat.{ℕ, _≤_}
 use native.Mathlib.Omega.{arith}
 use lib.ListN.{replicate}
 use Rattle.octets.specs.Bytes.{Bytes}
-use Rattle.chunk.specs.Refused.{Refusal}
+use Rattle.merkle.specs.Refusal.{Refusal}
 use Rattle.postage.specs.declared.rules.StampAnswer.{StampAnswer}
 use Rattle.postage.specs.declared.rules.StampAnswer.the-variants.{Passes, BadList, WrongLength, NoBatch, OtherBucket, IndexPast, NotOwner}
 use Rattle.postage.specs.Rules.{stampNumber, checked}

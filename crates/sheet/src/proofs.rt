@@ -1,8 +1,8 @@
 // Segment proofs at the last index and after it, and data that is too long.
 use crate::tally::Tally;
 use chunk::address;
-use chunk::check_proof;
-use chunk::make_proof;
+use proving::make_proof;
+use verifying::check_proof;
 
 // A full chunk's span and data, and a byte more.
 const SPAN: [u8; 8] = [0, 16, 0, 0, 0, 0, 0, 0];

@@ -1,6 +1,6 @@
 -- `ramekinfold::rkf_check_proof` meets its contract.
 use mathlib.Core.Path.{ap, _∙_}
-use Rattle.chunk.specs.Answer.{checkedNumber}
+use Rattle.verifying.specs.Answer.{checkedNumber}
 use borrow.Author.Needs.{needs}
 use Rattle.ramekinfold.proofs.chunks.rkf_check_proof.Statement.{statement}
 use Rattle.ramekinfold.proofs.chunks.rkf_check_proof.Tie as tie

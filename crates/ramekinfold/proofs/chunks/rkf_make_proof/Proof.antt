@@ -1,10 +1,10 @@
 -- `ramekinfold::rkf_make_proof` meets its contract.
 use mathlib.Core.Path.{ap, _∙_}
-use Rattle.chunk.specs.declared.making.ProofMade.{ProofMade}
+use Rattle.proving.specs.declared.making.ProofMade.{ProofMade}
 use mathlib.Core.List.{[]}
 use denote.Ref.{now}
-use Rattle.chunk.specs.Answer.{madeNumber, written}
-use Rattle.chunk.specs.Proof.{proofOf}
+use Rattle.proving.specs.Answer.{madeNumber, written}
+use Rattle.merkle.specs.Proof.{proofOf}
 use borrow.Author.Needs.{needs}
 use Rattle.ramekinfold.proofs.chunks.rkf_make_proof.Statement.{statement}
 use Rattle.ramekinfold.proofs.chunks.rkf_make_proof.Tie as tie

@@ -1,0 +1,2 @@
+-- What the calls of segments give.
+pub mod Determined

@@ -1,0 +1,3 @@
+-- What the calls of the tree give.
+pub mod Root
+pub mod Determined
