@@ -8,8 +8,8 @@ use native.Mathlib.Omega.{arith}
 use lib.ListN.{length}
 use Rattle.keccak.specs.Collision.{Collision}
 use Rattle.chunk.proofs.Collide.{Among, among-left, among-right, _>>=_}
-use Rattle.shelf.specs.declared.cell.CellAnswer.{CellAnswer}
-use Rattle.shelf.specs.declared.cell.CellAnswer.the-variants as Cells
+use Rattle.shelf.specs.declared.answer.CellAnswer.{CellAnswer}
+use Rattle.shelf.specs.declared.answer.CellAnswer.the-variants as Cells
 use Rattle.shelf.specs.Cell.{ownAddress, pairOf, cellHashed, cellIn}
 use Rattle.shelf.specs.Read.{isSound, cellAnswer}
 use Rattle.shelf.proofs.Pairs.{span-length, pair-same}

@@ -3,8 +3,8 @@ use mathlib.Core.Bool.{Bool, true, false}
 use mathlib.Core.List.{List}
 use Prim.Native.Nat.{ℕ}
 use lib.ListN.{replicate}
-use Rattle.shelf.specs.declared.cell.CellAnswer.{CellAnswer}
-use Rattle.shelf.specs.declared.cell.CellAnswer.the-variants as Cell
+use Rattle.shelf.specs.declared.answer.CellAnswer.{CellAnswer}
+use Rattle.shelf.specs.declared.answer.CellAnswer.the-variants as Cell
 use Rattle.draw.specs.declared.answer.DrawAnswer.{DrawAnswer}
 use Rattle.draw.specs.declared.answer.DrawAnswer.the-variants.{Done, NotWellFormed, Overfull, WrongLength, ShelfEnds, TooLong, Mismatch, Left, TooFew}
 use Rattle.draw.specs.declared.answer.DrawResult.{DrawResult}

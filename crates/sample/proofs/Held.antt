@@ -91,8 +91,7 @@ module _ (pair : List ℕ) (held : ℕ) (best : List ℕ) where
         unfolding heldAfter bestAfter
         entered-is r t e f =
             let count : r ≡ length (kept pair held best) = sym (length-pieces 64 r t) ∙ ap length e in
-            rw (eq-eqb _ _ room, eq-eqb _ _ whole, le-leb _ _ few)
-            (
+            rw (eq-eqb _ _ room, eq-eqb _ _ whole, le-leb _ _ few) (
               count,
               sym (joined-pieces 64 r t) ∙ ap₂ (λ (l : List (List ℕ)) (s : List ℕ). joinedParts l ++ s) e (f ∙ ap (λ (n : ℕ). drop (64 * n) best) count),
             )

@@ -22,8 +22,8 @@ use Rattle.chunk.specs.declared.addresses.AddressAnswer.the-variants as Address
 use Rattle.chunk.specs.declared.addresses.Addressed.{Addressed}
 use Rattle.chunk.proofs.Theorems.{address-length}
 use Rattle.chunk.proofs.Answers.{addressed-done, anchored-addressed-done}
-use Rattle.shelf.specs.declared.cell.CellAnswer.{CellAnswer}
-use Rattle.shelf.specs.declared.cell.CellAnswer.the-variants.{Sound, ShelfEnds, TooLong, Mismatch}
+use Rattle.shelf.specs.declared.answer.CellAnswer.{CellAnswer}
+use Rattle.shelf.specs.declared.answer.CellAnswer.the-variants.{Sound, ShelfEnds, TooLong, Mismatch}
 use Rattle.shelf.specs.declared.cell.CellRead.{CellRead}
 use Rattle.shelf.specs.Cell.{Cell, ownAddress, pairOf, sizeIn, cellIn}
 use Rattle.shelf.specs.Read.{isSound, matching, cellAnswer, pairRead, cellRead}

@@ -8,8 +8,8 @@ use Rattle.octets.specs.Order.{byteOrder}
 use Rattle.octets.specs.declared.order.Order.{Order}
 use Rattle.octets.specs.declared.order.Order.the-variants as Ordered
 use Rattle.chunk.specs.Answer.{anchoredAddressed}
-use Rattle.shelf.specs.declared.cell.CellAnswer.{CellAnswer}
-use Rattle.shelf.specs.declared.cell.CellAnswer.the-variants.{Sound, ShelfEnds, TooLong, Mismatch}
+use Rattle.shelf.specs.declared.answer.CellAnswer.{CellAnswer}
+use Rattle.shelf.specs.declared.answer.CellAnswer.the-variants.{Sound, ShelfEnds, TooLong, Mismatch}
 use Rattle.shelf.specs.declared.cell.CellRead.{CellRead}
 use Rattle.shelf.specs.Cell.{Cell, ownAddress, sizeIn, cellIn}
 

@@ -1,41 +1,19 @@
 // A cell at the head of what is left of the shelf.
+use crate::answer::CellAnswer;
+use crate::judging::sized_answer;
 use octets::moving::put;
 use octets::number::read16;
-use octets::order::Order;
-use octets::order::compare;
 ghost use mathlib.Core.Path.{_≡_};
 ghost use Prim.Native.Nat.{_+_, _≤_};
 ghost use lib.ListN.{length};
 ghost use Rattle.shelf.specs.Cell.{ownAddress, sizeIn, cellIn};
-ghost use Rattle.shelf.specs.Read.{isSound, cellAnswer, pairRead, cellRead};
-
-// What is wrong with a cell, if anything.
-pub enum CellAnswer {
-    Sound,
-    ShelfEnds,
-    TooLong,
-    Mismatch,
-}
+ghost use Rattle.shelf.specs.Read.{cellAnswer, pairRead, cellRead};
 
 // How many bytes the cell takes on the shelf, and its pair; none and zeros where the cell is not sound.
 pub struct CellRead {
     pub answer: CellAnswer,
     pub size: usize,
     pub pair: [u8; 64],
-}
-
-impl CellAnswer {
-    // Whether nothing is wrong.
-    fn is_sound(self) -> bool
-        ensures { λ r. ⌜ r ≡ isSound self ⌝ }
-    {
-        match self {
-            CellAnswer::Sound => true,
-            CellAnswer::ShelfEnds => false,
-            CellAnswer::TooLong => false,
-            CellAnswer::Mismatch => false,
-        }
-    }
 }
 
 // The cell at the head of `rest` against its record's address, and its pair under `anchor`.
@@ -67,20 +45,7 @@ fn cell_answer(rest: &[u8], recorded: &[u8]) -> CellAnswer
         return CellAnswer::ShelfEnds;
     }
     let size = read16(rest, 8) as usize;
-    let end = 10 + size;
-    if 4096 < size {
-        return CellAnswer::TooLong;
-    }
-    if rest.len() < end {
-        return CellAnswer::ShelfEnds;
-    }
-    let own = chunk::address(&rest[0..8], &rest[10..end]);
-    let digest = own.digest;
-    match compare(&digest, recorded) {
-        Order::Less => CellAnswer::Mismatch,
-        Order::Same => CellAnswer::Sound,
-        Order::More => CellAnswer::Mismatch,
-    }
+    sized_answer(rest, recorded, size)
 }
 
 // The cell's pair. Its address is its record's, so that only the anchored one is left to hash.

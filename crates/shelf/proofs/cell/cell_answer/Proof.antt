@@ -1,16 +1,13 @@
--- Each refusal is that of the part that fails; past them the comparison decides.
-use mathlib.Core.Path.{_≡_, sym, ap, _∙_}
+-- Refused where there is no length to read; past that as it is judged.
 use native.Mathlib.Omega.{arith}
 use borrow.Author.Needs.{needs}
-use Rattle.shelf.specs.Read.{matching, cellAnswer}
-use Rattle.shelf.proofs.Cells.{cell-short, cell-long, cell-cut, size-read, cell-told}
+use Rattle.shelf.proofs.Cells.{cell-short, size-read}
 use Rattle.shelf.proofs.cell.cell_answer.Statement.{statement}
 use Rattle.shelf.proofs.cell.cell_answer.Tie as tie
 use Rattle.shelf.proofs.cell.cell_answer.Reads as reads
 use Rattle.shelf.proofs.cell.cell_answer.Lts as lts
-use Rattle.chunk.proofs.address.Reads as address-reads
 use Rattle.octets.proofs.number.read16.Reads as read16-reads
-use Rattle.octets.proofs.order.compare.Reads as compare-reads
+use Rattle.shelf.proofs.judging.sized_answer.Reads as sized-answer-reads
 
 returns : tie.Need-returns
 returns c =
@@ -23,108 +20,15 @@ read16-requires c κs = search needs
 cast-size : tie.Need-cast-size
 cast-size c = search needs
 
-add-end : tie.Need-add-end
-add-end c = search needs
+sized-answer-requires : tie.Need-sized-answer-requires
+sized-answer-requires c κs =
+    let a = c .before .before .before .before .args in
+    (omega arith, (size-read (a .rest .now) (c .read16 .result) (omega arith) (c .read16 .ensures), omega arith))
 
 returns-2 : tie.Need-returns-2
-returns-2 c =
-    let r = c .before in
-    let a = r .before .before .before .before .args in
-    let size = size-read (a .rest .now) (r .read16 .result) (omega arith) (r .read16 .ensures) in
-    cell-long (a .recorded .now) (a .rest .now) (omega arith) (omega arith)
-
-returns-3 : tie.Need-returns-3
-returns-3 c =
-    let r = c .before .before in
-    let a = r .before .before .before .before .args in
-    let size = size-read (a .rest .now) (r .read16 .result) (omega arith) (r .read16 .ensures) in
-    cell-cut (a .recorded .now) (a .rest .now) (omega arith) (omega arith) (omega arith)
-
-sub-address : tie.Need-sub-address
-sub-address c = search needs
-
-part-address-start : tie.Need-part-address-start
-part-address-start c = search needs
-
-part-address-end : tie.Need-part-address-end
-part-address-end c = search needs
-
-sub-address-2 : tie.Need-sub-address-2
-sub-address-2 c = search needs
-
-part-address-start-2 : tie.Need-part-address-start-2
-part-address-start-2 c = search needs
-
-part-address-end-2 : tie.Need-part-address-end-2
-part-address-end-2 c = search needs
-
-address-requires : tie.Need-address-requires
-address-requires c κs = search needs
-
-slice-aggregate-compare : tie.Need-slice-aggregate-compare
-slice-aggregate-compare c = search needs
-
-compare-requires : tie.Need-compare-requires
-compare-requires c κs = search needs
-
-enum-told : tie.Need-enum-told
-enum-told c = search needs
-
-enum-told-2 : tie.Need-enum-told-2
-enum-told-2 c = search needs
-
-enum-told-3 : tie.Need-enum-told-3
-enum-told-3 c = search needs
-
-told : (w : tie.After-compare) → let a = w .before .before .before .before .before .before .before .before .before .before .before .before .args in
-    matching (w .compare .result) ≡ cellAnswer (a .recorded .now) (a .rest .now)
-told w =
-    let own = w .before .before .before in
-    let r = own .before .before .before .before .before in
-    let a = r .before .before .before .before .args in
-    let size = size-read (a .rest .now) (r .read16 .result) (omega arith) (r .read16 .ensures) in
-    cell-told (a .rest .now) (r .read16 .result) size (omega arith) (omega arith) (a .recorded .now) (own .address .result) (w .compare .result) (own .address .ensures) (w .compare .ensures)
-
-returns-4 : tie.Need-returns-4
-returns-4 c =
-    let w = c .before .before in
-    let a = w .before .before .before .before .before .before .before .before .before .before .before .before .args in
-    ap matching (sym (c .enum-told .given .1)) ∙ told w
-
-returns-5 : tie.Need-returns-5
-returns-5 c =
-    let w = c .before .before in
-    let a = w .before .before .before .before .before .before .before .before .before .before .before .before .args in
-    ap matching (sym (c .enum-told2 .given .1)) ∙ told w
-
-returns-6 : tie.Need-returns-6
-returns-6 c =
-    let w = c .before .before in
-    let a = w .before .before .before .before .before .before .before .before .before .before .before .before .args in
-    ap matching (sym (c .enum-told3 .given .1)) ∙ told w
+returns-2 c = search needs
 
 pub cell-answer-spec : {M : Type 1} → statement M
 cell-answer-spec =
     tie.close
-    (tie.spec
-    returns
-    read16-requires
-    cast-size
-    add-end
-    returns-2
-    returns-3
-    sub-address
-    part-address-start
-    part-address-end
-    sub-address-2
-    part-address-start-2
-    part-address-end-2
-    address-requires
-    slice-aggregate-compare
-    compare-requires
-    enum-told
-    enum-told-2
-    enum-told-3
-    returns-4
-    returns-5
-    returns-6)
+    (tie.spec returns read16-requires cast-size sized-answer-requires returns-2)

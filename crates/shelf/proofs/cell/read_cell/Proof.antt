@@ -10,7 +10,7 @@ use Rattle.shelf.proofs.cell.read_cell.Tie as tie
 use Rattle.shelf.proofs.cell.read_cell.Reads as reads
 use Rattle.shelf.proofs.cell.read_cell.Lts as lts
 use Rattle.octets.proofs.number.read16.Reads as read16-reads
-use Rattle.shelf.proofs.cell.CellAnswer.is_sound.Reads as is-sound-reads
+use Rattle.shelf.proofs.answer.CellAnswer.is_sound.Reads as is-sound-reads
 use Rattle.shelf.proofs.cell.cell_answer.Reads as cell-answer-reads
 use Rattle.shelf.proofs.cell.pair.Reads as pair-reads
 
