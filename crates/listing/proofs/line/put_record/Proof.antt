@@ -10,7 +10,7 @@ use Rattle.octets.proofs.Edits.{part-length}
 use Rattle.nearness.specs.Near.{bitsIn}
 use Rattle.reserve.specs.Record.{addressIn}
 use Rattle.reserve.proofs.Fields
-use Rattle.listing.specs.Field.{hex}
+use Rattle.digits.specs.Field.{hex}
 use Rattle.listing.specs.Line.{space, line, recordLine}
 use Rattle.listing.proofs.Puts
 use Rattle.listing.proofs.line.put_record.Statement.{statement}

@@ -1,5 +1,5 @@
 -- Digits, one by one.
-use mathlib.Core.Path.{_≡_, refl, sym}
+use mathlib.Core.Path.{_≡_, refl, sym, ap, ap₂, _∙_}
 use mathlib.Core.Bool.{Bool, true, false, cond}
 use mathlib.Core.List.{List, [], _∷_, _++_, append-assoc}
 use Prim.Native.Nat.{ℕ, zero, suc, _+_, _-_, _*_, _/_, _%_, _^_, _≤_, _<_}
@@ -7,10 +7,12 @@ use native.Mathlib.Nat.{pow-suc}
 use native.Mathlib.Numerals.{unary-clauses}
 use native.Mathlib.Omega.{arith}
 use lib.Dec.{ltb}
-use lib.ListN.{length, getD, take, drop, set, length-append}
-use lib.Seq.{set-split, drop-at, drop-cons, length-take-le}
+use lib.ListN.{length, getD, take, drop, set, replicate, take-append-drop, length-append, length-drop, length-replicate}
+use lib.Seq.{set-split, take-set-le, take-take, drop-at, drop-cons, length-take-le}
 use borrow.Author.Tests.{lt-ltb, le-ltb}
-use Rattle.listing.specs.Field.{digit, digits, decimal, hex}
+use Rattle.digits.specs.declared.spelling.Decimal.{Decimal}
+use Rattle.digits.specs.Field.{digit, digits, decimal, hex}
+use Rattle.digits.specs.Spelled.{spelled}
 
 -- one digit
 
@@ -75,6 +77,36 @@ module _ (b : List ℕ) (i : ℕ) (inside : i < length b) where
 
   pub the-last : (n : ℕ) → n < 10 → drop i (set b i (digit n)) ≡ digits (suc i) n ++ drop (suc i) b
   the-last n h = rw (stored (digit n), digits-one i n h)
+
+-- zeros before them
+
+take-zeros : (i n : ℕ) → i ≤ n → take i (replicate {A = ℕ} n 0) ≡ replicate i 0
+take-zeros zero n h = refl
+take-zeros (suc i) zero h = absurd (omega arith)
+take-zeros (suc i) (suc n) h = ap (λ (t : List ℕ). 0 ∷ t) (take-zeros i n (omega arith))
+
+pub zeros-before : (b : List ℕ) (i from x : ℕ) → i ≤ from → take from b ≡ replicate from 0 → take i (set b i x) ≡ replicate i 0
+zeros-before b i from x h e = take-set-le i b i x (omega arith) ∙ sym (take-take i from b h) ∙ ap (take i) e ∙ take-zeros i from h
+
+-- zeros up to a place and the digits from there are all
+pub all-spelled : (n i : ℕ) (b : List ℕ) → length b ≡ 20 → i ≤ 20 → take i b ≡ replicate i 0 → drop i b ≡ decimal n → record { bytes = b; from = i } ≡ spelled n
+unfolding spelled
+all-spelled n i b size inside front back =
+    let place : i ≡ 20 - length (decimal n) = omega (arith, ap length back, length-drop i b) in
+    let whole : b ≡ replicate (20 - length (decimal n)) 0 ++ decimal n = sym (take-append-drop i b) ∙ ap₂ (λ (x y : List ℕ). x ++ y) (front ∙ ap (λ (k : ℕ). replicate k 0) place) back in
+    ap₂ (λ (x : List ℕ) (k : ℕ). record { bytes = x; from = k }) whole place
+
+-- and the digits are found there
+pub spelled-there : (n : ℕ) (r : Decimal) → r ≡ spelled n → (length (r .bytes) ≡ 20) × ((r .from ≤ 20) × (drop (r .from) (r .bytes) ≡ decimal n))
+unfolding spelled
+spelled-there n r e =
+    let k = 20 - length (decimal n) in
+    let bytes = ap (λ (d : Decimal). d .bytes) e in
+    let from : r .from ≡ k = ap (λ (d : Decimal). d .from) e in
+    let zeros : length (replicate {A = ℕ} k 0) ≡ k = length-replicate {A = ℕ} k 0 in (
+      ap length bytes ∙ length-append (replicate k 0) (decimal n) ∙ omega (arith, zeros, decimal-fits n),
+      (omega (arith, from), ap₂ (λ (i : ℕ) (b : List ℕ). drop i b) from bytes ∙ drop-at (replicate k 0) (decimal n) k zeros),
+    )
 
 -- bytes
 

@@ -2,15 +2,15 @@
 use borrow.Author.Needs.{needs}
 use mathlib.Core.Path.{sym}
 use native.Mathlib.Omega.{arith}
-use Rattle.listing.proofs.Spelled
-use Rattle.listing.proofs.field.digit.Statement.{statement}
-use Rattle.listing.proofs.field.digit.Tie as tie
+use Rattle.digits.proofs.Letters
+use Rattle.digits.proofs.spelling.digit.Statement.{statement}
+use Rattle.digits.proofs.spelling.digit.Tie as tie
 
 returns : tie.Need-returns
-returns c = sym (Spelled.digit-number (c .before .args .d) (omega arith))
+returns c = sym (Letters.digit-number (c .before .args .d) (omega arith))
 
 returns-2 : tie.Need-returns-2
-returns-2 c = sym (Spelled.digit-letter (c .before .args .d) (omega arith))
+returns-2 c = sym (Letters.digit-letter (c .before .args .d) (omega arith))
 
 pub digit-spec : {M : Type 1} → statement M
 digit-spec =

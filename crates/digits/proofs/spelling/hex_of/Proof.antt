@@ -1,8 +1,8 @@
 -- Each half is the definition's.
 use borrow.Author.Needs.{needs}
-use Rattle.listing.specs.Field.{hex}
-use Rattle.listing.proofs.field.hex_of.Statement.{statement}
-use Rattle.listing.proofs.field.hex_of.Tie as tie
+use Rattle.digits.specs.Field.{hex}
+use Rattle.digits.proofs.spelling.hex_of.Statement.{statement}
+use Rattle.digits.proofs.spelling.hex_of.Tie as tie
 
 returns : tie.Need-returns
 unfolding hex
