@@ -1,9 +1,9 @@
 // Calls 14 to 17: books opened, checked and offered to, and the choice between two records.
 use crate::case::field;
 use crate::case::lent_end;
-use octets::moving::put;
+use moving::put;
+use moving::write32;
 use octets::number::read64;
-use octets::number::write32;
 
 // Lays in `came` what the call hands back, and says how many bytes that is.
 pub(crate) fn made(call: u8, rest: &[u8], came: &mut [u8]) -> usize {

@@ -2,10 +2,10 @@
 use crate::case::field;
 use crate::case::lent_end;
 use chunk::Addressed;
-use octets::moving::put;
+use moving::put;
+use moving::write32;
+use moving::write64;
 use octets::number::read64;
-use octets::number::write32;
-use octets::number::write64;
 
 // Lays in `came` what the call hands back, and says how many bytes that is.
 pub(crate) fn made(call: u8, rest: &[u8], came: &mut [u8]) -> usize {

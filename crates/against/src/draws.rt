@@ -1,8 +1,8 @@
 // Call 18: the draw.
 use crate::case::field;
 use crate::case::lent_end;
-use octets::moving::put;
-use octets::number::write32;
+use moving::put;
+use moving::write32;
 
 // Lays in `came` answer, place, commitment and sample, and says how many bytes that is.
 pub(crate) fn draw(rest: &[u8], came: &mut [u8]) -> usize {

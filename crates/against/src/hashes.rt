@@ -1,9 +1,9 @@
 // Calls 1 to 4: the hash, and the sponge, whose bytes are 25 lanes and the place.
 use crate::case::field;
 use keccak::Sponge;
-use octets::moving::put;
+use moving::put;
+use moving::write64;
 use octets::number::read64;
-use octets::number::write64;
 
 // Lays in `came` what the call hands back, and says how many bytes that is.
 pub(crate) fn made(call: u8, rest: &[u8], came: &mut [u8]) -> usize {

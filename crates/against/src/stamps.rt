@@ -1,7 +1,7 @@
 // Calls 11 to 13: nearness, stamp digests, and stamps.
 use crate::case::field;
-use octets::moving::put;
-use octets::number::write32;
+use moving::put;
+use moving::write32;
 
 // Lays in `came` what the call hands back, and says how many bytes that is.
 pub(crate) fn made(call: u8, rest: &[u8], came: &mut [u8]) -> usize {
@@ -20,7 +20,7 @@ fn nearness(rest: &[u8], came: &mut [u8]) -> usize {
 }
 
 fn stamp_digest(rest: &[u8], came: &mut [u8]) -> usize {
-    let found = postage::stamp_digest(field(rest, 0), field(rest, 1));
+    let found = signing::stamp_digest(field(rest, 0), field(rest, 1));
     let answer = found.answer;
     let digest = found.digest;
     write32(came, 0, answer.number());

@@ -10,10 +10,10 @@ use Rattle.book.specs.Layout.{recordsIn}
 use Rattle.draw.specs.declared.answer.DrawAnswer.{DrawAnswer}
 use Rattle.draw.specs.declared.answer.DrawAnswer.the-variants.{Done, NotWellFormed, Overfull, WrongLength, ShelfEnds, TooLong, Mismatch, Left, TooFew}
 use Rattle.draw.specs.Answer.{drawNumber}
-use Rattle.draw.specs.Shelf.{ownAddress, pairOf}
-use Rattle.draw.specs.Sample.{written, sampleSpan, commitmentOf}
+use Rattle.shelf.specs.Cell.{ownAddress, pairOf}
+use Rattle.sample.specs.Sample.{written, sampleSpan, commitmentOf}
 use Rattle.draw.specs.Draw.{cellsDrawn, pairsDrawn, sixteenDrawn, drawAnswer, drawn, sampleAfter}
-use Rattle.draw.proofs.Laying.{written-length}
+use Rattle.sample.proofs.Laying.{written-length}
 use Rattle.draw.proofs.Answered.{drawn-commitment, drawn-sample, sixteen-sized}
 use Rattle.draw.proofs.Theorems as draws
 use Rattle.agreement.specs.Theorems.{GotHash, OfRecord, Sampled}

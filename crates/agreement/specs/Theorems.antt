@@ -14,8 +14,8 @@ use Rattle.book.specs.Layout.{recordsIn}
 use Rattle.opening.specs.Open.{openAnswer, openBytes, openNumber}
 use Rattle.histories.specs.Histories.{Offer, ByteOffer, heard}
 use Rattle.draw.specs.Answer.{drawNumber}
-use Rattle.draw.specs.Shelf.{Cell, ownAddress, pairOf}
-use Rattle.draw.specs.Sample.{SixteenSmallest, written, sampleSpan}
+use Rattle.shelf.specs.Cell.{Cell, ownAddress, pairOf}
+use Rattle.sample.specs.Sample.{SixteenSmallest, written, sampleSpan}
 use Rattle.draw.specs.Draw.{cellsDrawn, pairsDrawn, sixteenDrawn, drawn, sampleAfter, drawHashed}
 
 -- ---- two books

@@ -6,7 +6,7 @@ use native.Mathlib.Omega.{arith}
 use lib.ListN.{length, drop, set, replicate, length-append}
 use lib.Seq.{take-at, drop-at, drop-append-add, drop-append-seam}
 use Rattle.octets.specs.Number.{bytesOf}
-use Rattle.octets.specs.Moving.{over}
+use Rattle.moving.specs.Moving.{over}
 use Rattle.octets.proofs.Numbers.{length-bytesOf, big-bytesOf}
 use Rattle.settling.specs.Book.{overfull, good}
 use Rattle.book.specs.Layout.{mark, overlayIn, capacityIn, countIn, laid}

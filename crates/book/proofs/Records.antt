@@ -10,7 +10,7 @@ use Rattle.octets.specs.Bytes.{Bytes}
 use Rattle.octets.specs.Number.{big, bigAt}
 use Rattle.octets.proofs.Bytes.{bytes-take, bytes-drop}
 use Rattle.octets.proofs.Numbers.{big-lt, bigAt-not}
-use Rattle.octets.proofs.Edits.{part-length}
+use Rattle.octets.proofs.Parts.{part-length}
 use Rattle.book.specs.Layout.{countIn, recordsIn, recordIn}
 use Rattle.book.proofs.Cuts.{counted, record-there}
 use Rattle.book.proofs.Fields.{count-there}

@@ -14,7 +14,7 @@ use Rattle.octets.specs.Number.{big, bytesOf}
 use Rattle.octets.specs.Pieces.{pieces}
 use Rattle.octets.proofs.Bytes.{bytes-take, bytes-drop}
 use Rattle.octets.proofs.Numbers.{bytesOf-big}
-use Rattle.octets.proofs.Edits.{part-length}
+use Rattle.octets.proofs.Parts.{part-length}
 use Rattle.octets.proofs.Pieces.{pieces-none}
 use Rattle.settling.specs.Book.{State, overfull, good}
 use Rattle.book.specs.Layout.{stateIn, startingIn, depthIn, overlayIn, capacityIn, countIn, recordsIn, laid, WellFormed}

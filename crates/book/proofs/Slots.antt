@@ -9,7 +9,7 @@ use Rattle.octets.specs.Bytes.{Bytes}
 use Rattle.octets.specs.Number.{big}
 use Rattle.octets.proofs.Bytes.{bytes-take, bytes-drop}
 use Rattle.octets.proofs.Numbers.{big-append, big-lt, big-injective}
-use Rattle.octets.proofs.Edits.{part-length}
+use Rattle.octets.proofs.Parts.{part-length}
 use Rattle.nearness.specs.Bits.{sharedBits}
 use Rattle.nearness.proofs.Shared.{shared-bits-take}
 use Rattle.settling.specs.Meaning.{Ascending}

@@ -2,7 +2,7 @@
 use crate::verdict::equal;
 use book::header::count;
 use book::record::record_at;
-use octets::moving::put;
+use moving::put;
 use octets::number::read16;
 ghost use Prim.Native.Nat.{_≤_};
 ghost use lib.ListN.{length};

@@ -1,7 +1,8 @@
 -- What holds where a hash is drawn.
 use mathlib.Core.Bool.{Bool, true, false, cond, _&&_}
 use mathlib.Core.Path.{_≡_, refl, ap, _∙_}
-use mathlib.Core.List.{List, [], map}
+use mathlib.Core.Logic.{⊎-elim}
+use mathlib.Core.List.{List, [], _∷_, map, List·Memᴰ·cases-cons, List·Memᴰ·not-nil}
 use Prim.Native.Nat.{ℕ, _≤_}
 use native.Mathlib.Omega.{arith}
 use lib.Dec.{eqb, ltb}
@@ -14,12 +15,14 @@ use Rattle.book.proofs.Cuts.{counted}
 use Rattle.draw.specs.declared.answer.DrawAnswer.{DrawAnswer}
 use Rattle.draw.specs.declared.answer.DrawAnswer.the-variants.{Done, NotWellFormed, Overfull, WrongLength, TooFew}
 use Rattle.draw.specs.Answer.{onlyDone, andThen}
-use Rattle.draw.specs.Shelf.{pairOf, shelfAnswer}
-use Rattle.draw.specs.Sample.{gathered, sixteen, written, commitmentOf}
+use Rattle.shelf.specs.Cell.{Cell, pairOf}
+use Rattle.shelf.proofs.Pairs.{pair-length}
+use Rattle.draw.specs.Shelf.{shelfAnswer}
+use Rattle.sample.specs.Sample.{gathered, sixteen, written, commitmentOf}
 use Rattle.draw.specs.Draw.{addressesIn, cellsDrawn, pairsDrawn, sixteenDrawn, lentAnswer, drawAnswer, drawn, sampleAfter}
 use Rattle.draw.proofs.Shelves.{not-done, both-done}
-use Rattle.draw.proofs.Gathering.{take-member, all-from}
-use Rattle.draw.proofs.Laying.{Sized, cells-sized}
+use Rattle.sample.proofs.Gathering.{take-member, all-from}
+use Rattle.sample.proofs.Laying.{Sized}
 
 pub record Lent (book anchor sample : List ℕ) : Type 0 where
   pub formed : wellFormed book ≡ true
@@ -84,6 +87,10 @@ drawn-sample book shelf anchor sample e = ap (λ (a : DrawAnswer). onlyDone a (w
 
 pub addresses-length : (book : List ℕ) → length (addressesIn book) ≡ countIn book
 addresses-length book = length-map (recordsIn book) addressIn ∙ counted book
+
+cells-sized : (anchor : List ℕ) (cells : List Cell) → Sized (map (pairOf anchor) cells)
+cells-sized anchor [] p m = absurd (List·Memᴰ·not-nil m)
+cells-sized anchor (c ∷ cells) p m = ⊎-elim (λ e. ap length e ∙ pair-length anchor c) (λ k. cells-sized anchor cells p k) (List·Memᴰ·cases-cons m)
 
 pub sixteen-sized : (book shelf anchor : List ℕ) → Sized (sixteenDrawn book shelf anchor)
 unfolding sixteenDrawn sixteen pairsDrawn

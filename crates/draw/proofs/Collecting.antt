@@ -4,20 +4,20 @@ use mathlib.Core.Path.{_≡_, refl, sym, ap, ap₂, subst, _∙_}
 use mathlib.Core.List.{List}
 use Prim.Native.Nat.{ℕ, _+_, _-_, _≤_, _<_}
 use native.Mathlib.Omega.{arith}
-use lib.Dec.{eqb}
+use lib.Dec.{eqb, ltb}
 use lib.ListN.{length, take, drop, length-drop}
-use borrow.Author.Tests.{eq-eqb, ne-eqb}
+use borrow.Author.Tests.{lt-ltb, le-ltb, eq-eqb, ne-eqb}
 use Rattle.octets.specs.Pieces.{pieces}
 use Rattle.octets.proofs.Pieces.{length-pieces, pieces-none}
 use Rattle.records.specs.Record.{addressIn}
 use Rattle.book.specs.Layout.{countIn, recordIn}
 use Rattle.draw.specs.declared.answer.DrawAnswer.{DrawAnswer}
 use Rattle.draw.specs.declared.answer.DrawAnswer.the-variants.{Done, NotWellFormed, Overfull, WrongLength, ShelfEnds, TooLong, Mismatch, Left, TooFew}
-use Rattle.draw.specs.declared.drawing.CellRead.{CellRead}
+use Rattle.draw.specs.declared.drawing.CellTaken.{CellTaken}
 use Rattle.draw.specs.Answer.{isDone, andThen}
 use Rattle.draw.specs.Shelf.{behind, shelfAnswer}
 use Rattle.draw.specs.Draw.{addressesIn, sixteenDrawn}
-use Rattle.draw.specs.Inside.{ReadsCell, Collects}
+use Rattle.draw.specs.Inside.{TakesCell, walkAnswer, Collects}
 use Rattle.draw.proofs.Walking.{addressesFrom, addressAt, answer-turn, answer-last, aheadOf, sixteen-ahead, ahead-turn, ahead-last, rest-is, behind-at}
 
 -- ---- the first refusal speaks
@@ -64,6 +64,10 @@ not-refused a h e = absurd (false≢true (sym h ∙ ap isDone e))
 
 -- ---- along the shelf
 
+-- what is answered behind the shelf
+abbrev few : List ℕ → List ℕ → List ℕ → DrawAnswer
+few book shelf anchor = cond (ltb (length (sixteenDrawn book shelf anchor)) 16) TooFew Done
+
 -- at record i of a book of so many records, and at byte `at` of the shelf
 pub record Walked (book shelf anchor : List ℕ) (records : ℕ) (best : List ℕ) (at held i : ℕ) : Type 0 where
   pub counted : records ≡ countIn book
@@ -90,12 +94,12 @@ module _ (book shelf anchor : List ℕ) (records : ℕ) (best : List ℕ) where
 
   module _ (at held i : ℕ) (w : Walked book shelf anchor records best at held i) where
     -- the cell there against record i, as it was found
-    module _ (ahead : i < records) (r : CellRead) (found next : List ℕ) (told : found ≡ recordIn book i)
-        (given : ReadsCell (take (length shelf - at) (drop at shelf)) (addressIn found) i anchor best held r next) where
-      here : ReadsCell (drop at shelf) (addressAt i book) i anchor best held r next
+    module _ (ahead : i < records) (r : CellTaken) (found next : List ℕ) (told : found ≡ recordIn book i)
+        (given : TakesCell (take (length shelf - at) (drop at shelf)) (addressIn found) i anchor best held r next) where
+      here : TakesCell (drop at shelf) (addressAt i book) i anchor best held r next
       here =
-          subst (λ (s : List ℕ). ReadsCell s (addressAt i book) i anchor best held r next) (rest-is at shelf)
-          (subst (λ (a : List ℕ). ReadsCell (take (length shelf - at) (drop at shelf)) a i anchor best held r next) (ap addressIn told) given)
+          subst (λ (s : List ℕ). TakesCell s (addressAt i book) i anchor best held r next) (rest-is at shelf)
+          (subst (λ (a : List ℕ). TakesCell (take (length shelf - at) (drop at shelf)) a i anchor best held r next) (ap addressIn told) given)
 
       before : i < countIn book
       before = omega (arith, w .counted)
@@ -122,8 +126,12 @@ module _ (book shelf anchor : List ℕ) (records : ℕ) (best : List ℕ) where
                 ∙ ap₂ (λ (l : List (List ℕ)) (s : List ℕ). aheadOf anchor l (countIn book - (i + 1)) s) (sym (here .kept done)) moved;
           }
 
-      pub walk-refused : isDone (r .answer) ≡ false → Collects book shelf anchor (record { answer = r .answer; held = held }) next
-      walk-refused h = record { answered = sym (answered-on false h); kept = not-refused (r .answer) h }
+      pub walk-refused : isDone (r .answer) ≡ false → Collects book shelf anchor (record { answer = r .answer; held = 0 }) next
+      walk-refused h = record {
+        answered = sym (ap (λ (x : DrawAnswer). andThen x (few book shelf anchor)) (answered-on false h) ∙ refused-stays (r .answer) (few book shelf anchor) h);
+        kept = not-refused (r .answer) h;
+        none = λ _. refl;
+      }
 
     module _ (over : records ≤ i) where
       past : countIn book ≤ i
@@ -133,14 +141,37 @@ module _ (book shelf anchor : List ℕ) (records : ℕ) (best : List ℕ) where
       unfolding shelfAnswer
       nothing-left b e = w .to-answer ∙ answer-last i book (drop at shelf) past ∙ ap (λ (x : Bool). cond x Done Left) e
 
-      pub walk-left : at < length shelf → Collects book shelf anchor (record { answer = Left; held = held }) best
+      pub walk-left : at < length shelf → Collects book shelf anchor (record { answer = Left; held = 0 }) best
       walk-left h = record {
-        answered = sym (nothing-left false (ne-eqb (length (drop at shelf)) 0 (λ e. omega (arith, length-drop at shelf))));
+        answered = sym (ap (λ (x : DrawAnswer). andThen x (few book shelf anchor)) (nothing-left false (ne-eqb (length (drop at shelf)) 0 (λ e. omega (arith, length-drop at shelf)))));
         kept = not-refused Left refl;
+        none = λ _. refl;
       }
 
-      pub walk-ends : length shelf ≤ at → Collects book shelf anchor (record { answer = Done; held = held }) best
-      walk-ends h = record {
-        answered = sym (nothing-left true (eq-eqb (length (drop at shelf)) 0 (omega (arith, length-drop at shelf))));
-        kept = λ e. sym (w .to-gather ∙ ahead-last anchor (pieces 64 held best) (countIn book) i (drop at shelf) past (omega (arith, length-pieces 64 held best, w .most)));
-      }
+      module _ (through : length shelf ≤ at) where
+        all-held : pieces 64 held best ≡ sixteenDrawn book shelf anchor
+        all-held = sym (w .to-gather ∙ ahead-last anchor (pieces 64 held best) (countIn book) i (drop at shelf) past (omega (arith, length-pieces 64 held best, w .most)))
+
+        number : length (sixteenDrawn book shelf anchor) ≡ held
+        number = ap length (sym all-held) ∙ length-pieces 64 held best
+
+        counted-out : (b : Bool) → ltb (length (sixteenDrawn book shelf anchor)) 16 ≡ b → walkAnswer book shelf anchor ≡ cond b TooFew Done
+        counted-out b e =
+            ap (λ (x : DrawAnswer). andThen x (few book shelf anchor)) (nothing-left true (eq-eqb (length (drop at shelf)) 0 (omega (arith, length-drop at shelf))))
+            ∙ ap (λ (x : Bool). cond x TooFew Done) e
+
+        pub walk-few : held < 16 → Collects book shelf anchor (record { answer = TooFew; held = 0 }) best
+        walk-few h = record {
+          answered = sym (counted-out true (lt-ltb (length (sixteenDrawn book shelf anchor)) 16 (omega (arith, number))));
+          kept = not-refused TooFew refl;
+          none = λ _. refl;
+        }
+
+        pub walk-ends : 16 ≤ held → Collects book shelf anchor (record { answer = Done; held = held }) best
+        walk-ends h =
+            let full : held ≡ 16 = omega (arith, w .most) in
+            record {
+              answered = sym (counted-out false (le-ltb (length (sixteenDrawn book shelf anchor)) 16 (omega (arith, number))));
+              kept = λ e. (full, ap (λ (n : ℕ). pieces 64 n best) (sym full) ∙ all-held);
+              none = λ e. absurd (false≢true (sym e));
+            }

@@ -9,11 +9,11 @@ use Rattle.octets.specs.Order.{byteOrder}
 use Rattle.octets.specs.declared.order.Order.{Order}
 use Rattle.octets.specs.declared.order.Order.the-variants.{Less, Same, More}
 use Rattle.octets.proofs.Ordered.{same-equal}
-use Rattle.draw.specs.Sample.{standing, entered, gathered, sixteen, Ascending}
+use Rattle.sample.specs.Sample.{standing, entered, gathered, sixteen, Ascending}
 use Rattle.draw.specs.Theorems.{Different, SixteenAmong}
-use Rattle.draw.proofs.Entering.{entered-from, ascending-head, ascending-tail, less-not-self}
-use Rattle.draw.proofs.Gathering.{gathered-has, all-from, all-ascending, sixteen-smallest}
-use Rattle.draw.proofs.Chosen.{within-length}
+use Rattle.sample.proofs.Entering.{entered-from, ascending-head, ascending-tail, less-not-self}
+use Rattle.sample.proofs.Gathering.{gathered-has, all-from, all-ascending, sixteen-smallest}
+use Rattle.sample.proofs.Chosen.{within-length}
 
 ascending-different : (l : List (List ℕ)) → Ascending l → Different l
 ascending-different [] a = tt

@@ -1,28 +1,21 @@
 -- What is handed back, by where the draw ended.
-use mathlib.Core.Bool.{Bool, true, false, cond, false≢true}
-use mathlib.Core.Path.{_≡_, refl, sym, ap, _∙_}
-use mathlib.Core.List.{List, []}
-use Prim.Native.Nat.{ℕ, _*_, _≤_, _<_}
+use mathlib.Core.Bool.{Bool, true, false, false≢true}
+use mathlib.Core.Path.{_≡_, refl, sym, ap, ap₂, _∙_}
+use mathlib.Core.List.{List}
+use Prim.Native.Nat.{ℕ}
 use native.Mathlib.Omega.{arith}
-use lib.Dec.{ltb}
 use lib.ListN.{length, replicate}
-use borrow.Author.Tests.{lt-ltb, le-ltb}
-use Rattle.octets.specs.Pieces.{pieces}
-use Rattle.octets.proofs.Pieces.{length-pieces}
-use Rattle.merkle.specs.Tree.{addressOf}
-use Rattle.chunk.specs.Answer.{addressed}
-use Rattle.chunk.specs.declared.addresses.Addressed.{Addressed}
-use Rattle.chunk.proofs.Answers.{addressed-done}
+use Rattle.sample.specs.Sample.{written, commitmentOf}
+use Rattle.sample.specs.Kept.{committed, writtenOver}
+use Rattle.sample.proofs.Held.{not-sixteen, sixteen-out}
 use Rattle.draw.specs.declared.answer.DrawAnswer.{DrawAnswer}
 use Rattle.draw.specs.declared.answer.DrawAnswer.the-variants.{Done, NotWellFormed, Overfull, WrongLength, ShelfEnds, TooLong, Mismatch, Left, TooFew}
 use Rattle.draw.specs.declared.answer.DrawResult.{DrawResult}
+use Rattle.draw.specs.declared.drawing.Collected.{Collected}
 use Rattle.draw.specs.Answer.{isDone, andThen, onlyDone, refused}
-use Rattle.draw.specs.Shelf.{shelfAnswer}
-use Rattle.draw.specs.Sample.{written, sampleSpan, commitmentOf}
-use Rattle.draw.specs.Draw.{addressesIn, sixteenDrawn, lentAnswer, drawAnswer, drawn, sampleAfter}
-use Rattle.draw.proofs.Laying.{written-length}
-use Rattle.draw.proofs.Answered.{sixteen-most, sixteen-sized}
-use Rattle.draw.proofs.Collecting.{done-goes-on, refused-stays}
+use Rattle.draw.specs.Draw.{sixteenDrawn, lentAnswer, drawAnswer, drawn, sampleAfter}
+use Rattle.draw.specs.Inside.{walkAnswer, Collects}
+use Rattle.draw.proofs.Collecting.{is-done, refused-stays}
 
 refused-keeps : (a : DrawAnswer) (done kept : List ℕ) → isDone a ≡ false → onlyDone a done kept ≡ kept
 refused-keeps Done done kept h = absurd (false≢true (sym h))
@@ -50,43 +43,39 @@ module _ (book shelf anchor sample : List ℕ) where
     sym (ap (λ (x : DrawAnswer). onlyDone x (written (sixteenDrawn book shelf anchor)) sample) e ∙ refused-keeps a (written (sixteenDrawn book shelf anchor)) sample h),
   )
 
-  abbrev fewer : DrawAnswer
-  fewer = cond (ltb (length (sixteenDrawn book shelf anchor)) 16) TooFew Done
-
-  abbrev onward : DrawAnswer
-  onward = andThen (shelfAnswer 0 (addressesIn book) shelf) fewer
+  success : (a : DrawAnswer) (commitment after : List ℕ) → a ≡ Done → drawAnswer book shelf anchor sample ≡ Done
+      → commitment ≡ commitmentOf (sixteenDrawn book shelf anchor) → after ≡ written (sixteenDrawn book shelf anchor)
+      → Given (record { answer = a; commitment = commitment }) after
+  unfolding drawn sampleAfter
+  success a commitment after done e c w = (
+    _∙_ {b = result-of Done} (ap₂ (λ (x : DrawAnswer) (d : List ℕ). record { answer = x; commitment = d }) done c) (sym (ap result-of e)),
+    w ∙ sym (ap (λ (x : DrawAnswer). onlyDone x (written (sixteenDrawn book shelf anchor)) sample) e),
+  )
 
   pub refused-lent : (a : DrawAnswer) → a ≡ lentAnswer book anchor sample → isDone a ≡ false → Given (refused a) sample
   unfolding drawAnswer
-  refused-lent a e h = refusal a h (ap (λ (x : DrawAnswer). andThen x onward) (sym e) ∙ refused-stays a onward h)
+  refused-lent a e h = refusal a h (ap (λ (x : DrawAnswer). andThen x (walkAnswer book shelf anchor)) (sym e) ∙ refused-stays a (walkAnswer book shelf anchor) h)
 
-  module _ (lent : isDone (lentAnswer book anchor sample) ≡ true) where
-    pub refused-shelf : (a : DrawAnswer) → a ≡ shelfAnswer 0 (addressesIn book) shelf → isDone a ≡ false → Given (refused a) sample
-    unfolding drawAnswer
-    refused-shelf a e h = refusal a h (done-goes-on (lentAnswer book anchor sample) onward lent ∙ ap (λ (x : DrawAnswer). andThen x fewer) (sym e) ∙ refused-stays a fewer h)
+  past-lent : lentAnswer book anchor sample ≡ Done → drawAnswer book shelf anchor sample ≡ walkAnswer book shelf anchor
+  unfolding drawAnswer
+  past-lent e = ap (λ (x : DrawAnswer). andThen x (walkAnswer book shelf anchor)) e
 
-    module _ (read : isDone (shelfAnswer 0 (addressesIn book) shelf) ≡ true) where
-      counted : (b : Bool) → ltb (length (sixteenDrawn book shelf anchor)) 16 ≡ b → drawAnswer book shelf anchor sample ≡ cond b TooFew Done
-      unfolding drawAnswer
-      counted b e =
-          done-goes-on (lentAnswer book anchor sample) onward lent ∙ done-goes-on (shelfAnswer 0 (addressesIn book) shelf) fewer read ∙ ap (λ (x : Bool). cond x TooFew Done) e
+  -- what the walk left is handed on: sixteen pairs where it was not refused, none where it was
+  pub handed-on : (r : Collected) (best commitment after : List ℕ) → lentAnswer book anchor sample ≡ Done → length sample ≡ 1024 → length best ≡ 1024
+      → Collects book shelf anchor r best → commitment ≡ committed best (r .held) sample → after ≡ writtenOver best (r .held) sample
+      → Given (record { answer = r .answer; commitment = commitment }) after
+  handed-on r best commitment after lent ls lb found e f = by (isDone (r .answer)) refl
+    where
+      answered : drawAnswer book shelf anchor sample ≡ r .answer
+      answered = past-lent lent ∙ sym (found .answered)
 
-      pub refused-few : length (sixteenDrawn book shelf anchor) < 16 → Given (refused TooFew) sample
-      refused-few h = refusal TooFew refl (counted true (lt-ltb _ _ h))
-
-      pub all-done : (best after : List ℕ) (held : ℕ) (r : Addressed) → 16 ≤ held → pieces 64 held best ≡ sixteenDrawn book shelf anchor
-          → after ≡ written (pieces 64 16 best) → r ≡ addressed [] sampleSpan after → Given (record { answer = Done; commitment = r .digest }) after
-      unfolding drawn sampleAfter commitmentOf
-      all-done best after held r h kept out hashed =
-          let chosen = sixteenDrawn book shelf anchor in
-          let number : held ≡ length chosen = sym (length-pieces 64 held best) ∙ ap length kept in
-          let full : held ≡ 16 = omega (arith, sixteen-most book shelf anchor) in
-          let stands : after ≡ written chosen = out ∙ ap (λ (n : ℕ). written (pieces 64 n best)) (sym full) ∙ ap written kept in
-          let size : length after ≡ 1024 =
-          ap length stands ∙ written-length chosen (sixteen-sized book shelf anchor) ∙ ap (λ (n : ℕ). 64 * n) (sym number ∙ full) in
-          let digest : r .digest ≡ addressOf [] sampleSpan (written chosen) =
-          ap (λ (a : Addressed). a .digest) (hashed ∙ addressed-done [] sampleSpan after refl (omega arith)) ∙ ap (addressOf [] sampleSpan) stands in
-          let answered = counted false (le-ltb (length chosen) 16 (omega arith)) in (
-            _∙_ {b = result-of Done} (ap (λ (c : List ℕ). record { answer = Done; commitment = c }) digest) (sym (ap result-of answered)),
-            stands ∙ sym (ap (λ (x : DrawAnswer). onlyDone x (written chosen) sample) answered),
-          )
+      by : (b : Bool) → isDone (r .answer) ≡ b → Given (record { answer = r .answer; commitment = commitment }) after
+      by true h =
+          let done = is-done (r .answer) h in
+          let kept = found .kept done in
+          let out = sixteen-out best (r .held) sample (kept .0) lb ls in
+          success (r .answer) commitment after done (answered ∙ done) (e ∙ out .0 ∙ ap commitmentOf (kept .1)) (f ∙ out .1 ∙ ap written (kept .1))
+      by false h =
+          let nothing = not-sixteen best (r .held) sample (λ all. absurd (omega (arith, found .none h))) in
+          let given = refusal (r .answer) h answered in
+          (ap (λ (c : List ℕ). record { answer = r .answer; commitment = c }) (e ∙ sym (nothing .0)) ∙ given .0, f ∙ sym (nothing .1) ∙ given .1)

@@ -14,8 +14,10 @@ use Rattle.octets.specs.declared.order.Order.the-variants as Ordered
 use Rattle.octets.proofs.Ordered.{order-self, same-equal}
 use Rattle.draw.specs.declared.answer.DrawAnswer.{DrawAnswer}
 use Rattle.draw.specs.declared.answer.DrawAnswer.the-variants.{Done, NotWellFormed, Overfull, WrongLength, ShelfEnds, TooLong, Mismatch, Left, TooFew}
-use Rattle.draw.specs.Answer.{drawNumber, drawPlace, andThen}
-use Rattle.draw.specs.Shelf.{ownAddress, sizeIn, cellIn, matching, cellAnswer, shelfAnswer}
+use Rattle.draw.specs.Answer.{drawNumber, drawPlace, ofCell, andThen}
+use Rattle.shelf.specs.Cell.{ownAddress, sizeIn, cellIn}
+use Rattle.shelf.specs.Read.{matching, cellAnswer}
+use Rattle.draw.specs.Shelf.{shelfAnswer}
 use Rattle.draw.specs.Theorems.{shelfFrom, SoundCell, SoundBefore, WrongCell, no-length, too-long, cut-short, mismatch}
 
 -- an answer's number and place
@@ -40,13 +42,13 @@ stops TooFew b h = refl
 -- ---- one cell
 
 module _ (place : ℕ) (address rest : List ℕ) where
-  sound-answer : SoundCell address rest → cellAnswer place address rest ≡ Done
+  sound-answer : SoundCell address rest → ofCell place (cellAnswer address rest) ≡ Done
   unfolding cellAnswer
   sound-answer w =
       let same : byteOrder (ownAddress (cellIn rest)) address ≡ Ordered.Same = ap (λ (a : List ℕ). byteOrder a address) (w .own) ∙ order-self address in
       rw (le-ltb (length rest) 10 (w .headed), le-ltb 4096 (sizeIn rest) (w .bounded), le-ltb (length rest) (10 + sizeIn rest) (w .whole), same)
 
-  wrong-answer : (n : ℕ) → WrongCell address rest n → Says (cellAnswer place address rest) n place
+  wrong-answer : (n : ℕ) → WrongCell address rest n → Says (ofCell place (cellAnswer address rest)) n place
   unfolding cellAnswer
   wrong-answer n (no-length h) = rw (lt-ltb (length rest) 10 h) (refl, refl)
   wrong-answer n (too-long h k) = rw (le-ltb (length rest) 10 h, lt-ltb 4096 (sizeIn rest) k) (refl, refl)
@@ -55,7 +57,7 @@ module _ (place : ℕ) (address rest : List ℕ) where
   wrong-answer n (mismatch h k j other) =
       rw (le-ltb (length rest) 10 h, le-ltb 4096 (sizeIn rest) k, le-ltb (length rest) (10 + sizeIn rest) j) (go (byteOrder (ownAddress (cellIn rest)) address) refl)
     where
-      go : (o : Order) → byteOrder (ownAddress (cellIn rest)) address ≡ o → Says (matching place o) 24 place
+      go : (o : Order) → byteOrder (ownAddress (cellIn rest)) address ≡ o → Says (ofCell place (matching o)) 24 place
       go Ordered.Less e = (refl, refl)
       go Ordered.Same e = absurd (other (same-equal _ _ e))
       go Ordered.More e = (refl, refl)
@@ -95,7 +97,7 @@ judged address rest = start (decLe 10 (length rest))
 module _ (addresses : List (List ℕ)) (shelf : List ℕ) where
   turn : (i : ℕ) → i < length addresses
       → shelfAnswer i (drop i addresses) (shelfFrom i shelf)
-      ≡ andThen (cellAnswer i (getD addresses i []) (shelfFrom i shelf)) (shelfAnswer (suc i) (drop (suc i) addresses) (shelfFrom (suc i) shelf))
+      ≡ andThen (ofCell i (cellAnswer (getD addresses i []) (shelfFrom i shelf))) (shelfAnswer (suc i) (drop (suc i) addresses) (shelfFrom (suc i) shelf))
   unfolding shelfAnswer shelfFrom
   turn i h = ap (λ (l : List (List ℕ)). shelfAnswer i l (shelfFrom i shelf)) (drop-cons addresses i [] h)
 
@@ -112,7 +114,7 @@ module _ (addresses : List (List ℕ)) (shelf : List ℕ) where
   pub shelf-wrong : (n i : ℕ) → i < length addresses → SoundBefore addresses shelf i → WrongCell (getD addresses i []) (shelfFrom i shelf) n
       → Says (shelfAnswer 0 addresses shelf) n i
   shelf-wrong n i h sound w =
-      let a = cellAnswer i (getD addresses i []) (shelfFrom i shelf) in
+      let a = ofCell i (cellAnswer (getD addresses i []) (shelfFrom i shelf)) in
       let says = wrong-answer i (getD addresses i []) (shelfFrom i shelf) n w in
       let refused : 10 ≤ drawNumber a = omega (arith, says .0, wrong-refused (getD addresses i []) (shelfFrom i shelf) n w) in
       says-as (past i (omega arith) sound ∙ turn i h ∙ stops a (shelfAnswer (suc i) (drop (suc i) addresses) (shelfFrom (suc i) shelf)) refused) says

@@ -7,14 +7,15 @@ use lib.ListN.{length}
 use Rattle.keccak.specs.Collision.{Collision}
 use Rattle.merkle.proofs.Collide.{Among, among-left, among-right, _>>=_}
 use Rattle.draw.specs.declared.answer.DrawAnswer.the-variants.{Done}
-use Rattle.draw.specs.Shelf.{Cell, ownAddress, pairOf, cellsHashed, cellsOn, shelfAnswer}
-use Rattle.draw.specs.Sample.{sixteen, written, commitmentOf, commitmentHashed}
+use Rattle.shelf.specs.Cell.{Cell, ownAddress, pairOf}
+use Rattle.draw.specs.Shelf.{cellsHashed, cellsOn, shelfAnswer}
+use Rattle.sample.specs.Sample.{sixteen, written, commitmentOf, commitmentHashed}
 use Rattle.draw.specs.Draw.{addressesIn, cellsDrawn, pairsDrawn, sixteenDrawn, drawHashed}
 use Rattle.draw.specs.Theorems.{DrawAnswers, EachHashesToItsRecord, TheSixteenSmallest, SixteenOnce, EachDifferentPairOnce, OrderDoesNotMatter, OneAnchorOneHash, OneHashOneSample}
 use Rattle.draw.proofs.Shelves.{shelf-done, shelves-same}
-use Rattle.draw.proofs.Gathering.{all-from, all-ascending, gathered-has, sixteen-same, sixteen-smallest}
-use Rattle.draw.proofs.Chosen.{smallest-once}
-use Rattle.draw.proofs.Laying.{commitment-same}
+use Rattle.sample.proofs.Gathering.{all-from, all-ascending, gathered-has, sixteen-same, sixteen-smallest}
+use Rattle.sample.proofs.Chosen.{smallest-once}
+use Rattle.sample.proofs.Laying.{commitment-same}
 use Rattle.draw.proofs.Answered.{draw-good, drawn-commitment, drawn-sample, addresses-length, sixteen-sized}
 use Rattle.draw.proofs.Tabled.{answers-table}
 

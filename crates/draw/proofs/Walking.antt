@@ -11,11 +11,13 @@ use Rattle.records.specs.Record.{addressIn}
 use Rattle.book.specs.Layout.{capacityIn, countIn, recordsIn, recordIn}
 use Rattle.wellformed.specs.Check.{labelled, sized, wellFormed}
 use Rattle.wellformed.proofs.Tested.{sized-true}
-use Rattle.draw.specs.Answer.{andThen}
-use Rattle.draw.specs.Shelf.{pairOf, sizeIn, cellIn, behind, cellsOn, cellAnswer, shelfAnswer}
-use Rattle.draw.specs.Sample.{entered, gathered, sixteen}
+use Rattle.draw.specs.Answer.{ofCell, andThen}
+use Rattle.shelf.specs.Cell.{pairOf, sizeIn, cellIn}
+use Rattle.shelf.specs.Read.{cellAnswer}
+use Rattle.draw.specs.Shelf.{behind, cellsOn, shelfAnswer}
+use Rattle.sample.specs.Sample.{entered, gathered, sixteen}
 use Rattle.draw.specs.Draw.{addressesIn, cellsDrawn, pairsDrawn, sixteenDrawn}
-use Rattle.draw.proofs.Gathering.{take-gathered}
+use Rattle.sample.proofs.Gathering.{take-gathered}
 use Rattle.draw.proofs.Answered.{addresses-length}
 
 -- the addresses of the records from place i on
@@ -36,7 +38,7 @@ addresses-first i book h =
 -- ---- what is answered
 
 pub answer-turn : (i : ℕ) (book s : List ℕ) → i < countIn book
-    → shelfAnswer i (addressesFrom i book) s ≡ andThen (cellAnswer i (addressAt i book) s) (shelfAnswer (i + 1) (addressesFrom (i + 1) book) (behind s))
+    → shelfAnswer i (addressesFrom i book) s ≡ andThen (ofCell i (cellAnswer (addressAt i book) s)) (shelfAnswer (i + 1) (addressesFrom (i + 1) book) (behind s))
 unfolding shelfAnswer
 answer-turn i book s h = ap (λ (l : List (List ℕ)). shelfAnswer i l s) (addresses-first i book h) ∙ rw add-one
 

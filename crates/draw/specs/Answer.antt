@@ -3,6 +3,8 @@ use mathlib.Core.Bool.{Bool, true, false}
 use mathlib.Core.List.{List}
 use Prim.Native.Nat.{ℕ}
 use lib.ListN.{replicate}
+use Rattle.shelf.specs.declared.answer.CellAnswer.{CellAnswer}
+use Rattle.shelf.specs.declared.answer.CellAnswer.the-variants as Cell
 use Rattle.draw.specs.declared.answer.DrawAnswer.{DrawAnswer}
 use Rattle.draw.specs.declared.answer.DrawAnswer.the-variants.{Done, NotWellFormed, Overfull, WrongLength, ShelfEnds, TooLong, Mismatch, Left, TooFew}
 use Rattle.draw.specs.declared.answer.DrawResult.{DrawResult}
@@ -29,6 +31,13 @@ drawPlace (TooLong place) = place
 drawPlace (Mismatch place) = place
 drawPlace Left = 0
 drawPlace TooFew = 0
+
+-- what is wrong with the cell of the record at this place, if anything
+abbrev pub ofCell : ℕ → CellAnswer → DrawAnswer
+ofCell place Cell.Sound = Done
+ofCell place Cell.ShelfEnds = ShelfEnds place
+ofCell place Cell.TooLong = TooLong place
+ofCell place Cell.Mismatch = Mismatch place
 
 abbrev pub isDone : DrawAnswer → Bool
 isDone Done = true

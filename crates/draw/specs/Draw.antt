@@ -11,8 +11,9 @@ use Rattle.draw.specs.declared.answer.DrawAnswer.{DrawAnswer}
 use Rattle.draw.specs.declared.answer.DrawAnswer.the-variants.{Done, NotWellFormed, Overfull, WrongLength, TooFew}
 use Rattle.draw.specs.declared.answer.DrawResult.{DrawResult}
 use Rattle.draw.specs.Answer.{andThen, onlyDone}
-use Rattle.draw.specs.Shelf.{Cell, pairOf, cellsHashed, cellsOn, shelfAnswer}
-use Rattle.draw.specs.Sample.{sixteen, written, commitmentOf, commitmentHashed}
+use Rattle.shelf.specs.Cell.{Cell, pairOf}
+use Rattle.draw.specs.Shelf.{cellsHashed, cellsOn, shelfAnswer}
+use Rattle.sample.specs.Sample.{sixteen, written, commitmentOf, commitmentHashed}
 
 -- the addresses of a book's records, in record order
 abbrev pub addressesIn : List ℕ → List (List ℕ)

@@ -1,7 +1,6 @@
--- The draw as document 01 has it: the shelf, the pairs, the sixteen, the commitment; and what a draw answers.
+-- The draw as document 01 has it: the shelf, cell by cell, and what a draw answers and hands back.
 pub mod Answer
 pub mod Shelf
-pub mod Sample
 pub mod Draw
 pub mod Inside
 pub mod Theorems

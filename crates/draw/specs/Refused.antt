@@ -10,7 +10,7 @@ use Rattle.draw.specs.declared.answer.DrawAnswer.{DrawAnswer}
 use Rattle.draw.specs.declared.answer.DrawAnswer.the-variants.{Done, NotWellFormed, Overfull, WrongLength, ShelfEnds, TooLong, Mismatch, Left, TooFew}
 use Rattle.draw.specs.declared.answer.DrawResult.{DrawResult}
 use Rattle.draw.specs.Answer.{drawNumber, onlyDone}
-use Rattle.draw.specs.Sample.{written, commitmentOf}
+use Rattle.sample.specs.Sample.{written, commitmentOf}
 use Rattle.draw.specs.Draw.{sixteenDrawn, drawAnswer, drawn, sampleAfter}
 
 done-is-none : {A : Type 0} → Refusal 0 → A

@@ -9,8 +9,9 @@ use Rattle.keccak.specs.Collision.{Collision}
 use Rattle.book.specs.Layout.{stateIn, countIn, WellFormed}
 use Rattle.draw.specs.declared.answer.DrawAnswer.the-variants.{Done}
 use Rattle.draw.specs.Answer.{drawNumber, drawPlace}
-use Rattle.draw.specs.Shelf.{ownAddress, sizeIn, cellIn, behind}
-use Rattle.draw.specs.Sample.{gathered, sixteen, Ascending, SixteenSmallest}
+use Rattle.shelf.specs.Cell.{ownAddress, sizeIn, cellIn}
+use Rattle.draw.specs.Shelf.{behind}
+use Rattle.sample.specs.Sample.{gathered, sixteen, Ascending, SixteenSmallest}
 use Rattle.draw.specs.Draw.{addressesIn, cellsDrawn, pairsDrawn, sixteenDrawn, drawAnswer, drawn, sampleAfter, drawHashed}
 
 -- ---- each answer, and when it is given

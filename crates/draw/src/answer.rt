@@ -1,6 +1,7 @@
 // What a draw answers.
+use shelf::CellAnswer;
 ghost use mathlib.Core.Path.{_≡_};
-ghost use Rattle.draw.specs.Answer.{drawNumber, drawPlace, isDone, refused};
+ghost use Rattle.draw.specs.Answer.{drawNumber, drawPlace, ofCell, isDone, refused};
 
 // Answers about a cell of the shelf name the place of its record, from 0.
 pub enum DrawAnswer {
@@ -53,6 +54,18 @@ impl DrawAnswer {
             DrawAnswer::Mismatch(place) => place,
             DrawAnswer::Left => 0,
             DrawAnswer::TooFew => 0,
+        }
+    }
+
+    // A cell's answer, beside the place of its record.
+    pub(crate) fn of_cell(answer: CellAnswer, place: u32) -> DrawAnswer
+        ensures { λ r. ⌜ r ≡ ofCell place answer ⌝ }
+    {
+        match answer {
+            CellAnswer::Sound => DrawAnswer::Done,
+            CellAnswer::ShelfEnds => DrawAnswer::ShelfEnds(place),
+            CellAnswer::TooLong => DrawAnswer::TooLong(place),
+            CellAnswer::Mismatch => DrawAnswer::Mismatch(place),
         }
     }
 

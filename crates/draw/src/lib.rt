@@ -1,8 +1,6 @@
 // The draw: the shelf read against the book, the sixteen smallest pairs, and their commitment.
 mod answer;
-mod cell;
 mod drawing;
-mod sample;
 
 pub use answer::DrawAnswer;
 pub use answer::DrawResult;

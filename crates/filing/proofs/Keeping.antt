@@ -7,9 +7,9 @@ use native.Mathlib.Omega.{arith}
 use lib.ListN.{length, take, drop, set, replicate, length-append, length-set, length-drop, length-replicate}
 use lib.Seq.{take-all}
 use Rattle.octets.specs.Number.{bigAt, bytesOf}
-use Rattle.octets.specs.Moving.{over, placed}
+use Rattle.moving.specs.Moving.{over, placed}
 use Rattle.octets.specs.Pieces.{pieces}
-use Rattle.octets.proofs.Edits.{placed-fits, length-placed}
+use Rattle.moving.proofs.Edits.{placed-fits, length-placed}
 use Rattle.octets.proofs.Pieces.{length-pieces}
 use Rattle.settling.specs.Book.{inside}
 use Rattle.settling.proofs.Cases.{Limit, within, beyond, limit}

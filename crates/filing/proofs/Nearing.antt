@@ -11,7 +11,7 @@ use lib.Seq.{take-take, drop-drop}
 use Rattle.octets.specs.Bytes.{Bytes}
 use Rattle.octets.specs.Number.{big, bigAt}
 use Rattle.octets.proofs.Bytes.{bytes-take, bytes-drop}
-use Rattle.octets.proofs.Edits.{part-length, part-of-take}
+use Rattle.octets.proofs.Parts.{part-length, part-of-take}
 use Rattle.octets.proofs.Numbers.{bigAt-fits}
 use Rattle.records.specs.Record.{slot, nearOf}
 use Rattle.records.proofs.Buckets.{near-words}

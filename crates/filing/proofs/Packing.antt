@@ -5,9 +5,10 @@ use Prim.Native.Nat.{ℕ, _+_, _*_, _≤_, _<_}
 use native.Mathlib.Omega.{arith}
 use lib.ListN.{length, getD, take, drop, length-append}
 use lib.Seq.{length-take-le, take-take, take-at, drop-drop}
-use Rattle.octets.specs.Moving.{over, lowered}
+use Rattle.moving.specs.Moving.{over, lowered}
 use Rattle.octets.specs.Pieces.{pieces}
-use Rattle.octets.proofs.Edits.{part-length, part-of-take, drop-over, lowered-fits, length-lowered}
+use Rattle.octets.proofs.Parts.{part-length, part-of-take}
+use Rattle.moving.proofs.Edits.{drop-over, lowered-fits, length-lowered}
 use Rattle.octets.proofs.Pieces.{length-pieces}
 use Rattle.settling.specs.Book.{inside}
 use Rattle.settling.proofs.Inside.{inside-nil}

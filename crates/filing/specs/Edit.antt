@@ -5,7 +5,7 @@ use Prim.Native.Nat.{ℕ, _+_, _-_, _*_}
 use lib.Dec.{eqb, leb}
 use lib.ListN.{length, set, replicate}
 use Rattle.octets.specs.Number.{bytesOf}
-use Rattle.octets.specs.Moving.{placed, inserted}
+use Rattle.moving.specs.Moving.{placed, inserted}
 
 -- The record g put in at place i among the n records of s, those from there on behind it, and one more in the header's count; s where i is
 -- no place among them, there is no room for one more, or g is no record.

@@ -5,7 +5,7 @@ use mathlib.Core.List.{List, _++_}
 use Prim.Native.Nat.{ℕ, _+_, _-_, _*_}
 use lib.ListN.{length, take, drop, set, replicate}
 use Rattle.octets.specs.Number.{bytesOf}
-use Rattle.octets.specs.Moving.{placed}
+use Rattle.moving.specs.Moving.{placed}
 use Rattle.octets.specs.Pieces.{pieces}
 use Rattle.settling.specs.Book.{inside}
 use Rattle.book.specs.Shape.{shapeIn}

@@ -1,7 +1,7 @@
 // A book's bytes, edited in place: one record more; none at all.
-use octets::moving::clear;
-use octets::moving::insert;
-use octets::number::write32;
+use moving::clear;
+use moving::insert;
+use moving::write32;
 ghost use mathlib.Core.Path.{_≡_};
 ghost use Rattle.filing.specs.Edit.{added, burstBytes};
 

@@ -2,9 +2,9 @@
 use crate::near::near_at;
 use crate::whole::is_whole;
 use book::header::count;
-use octets::moving::clear;
-use octets::moving::lower;
-use octets::number::write32;
+use moving::clear;
+use moving::lower;
+use moving::write32;
 use octets::order::lesser;
 ghost use mathlib.Core.List.{List};
 ghost use mathlib.Core.Path.{_≡_};

@@ -1,5 +1,4 @@
 -- Laws that belong to no one function. A reader opens Theorems.
-pub mod Spelled
 pub mod Puts
 pub mod Listed
 pub mod Theorems

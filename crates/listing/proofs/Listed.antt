@@ -5,7 +5,7 @@ use mathlib.Core.List.{List, [], _∷_, _++_}
 use Prim.Native.Nat.{ℕ, _+_, _-_, _*_, _≤_, _<_}
 use native.Mathlib.Nat.{zero-add}
 use lib.ListN.{length, take, drop}
-use Rattle.octets.specs.Moving.{over}
+use Rattle.moving.specs.Moving.{over}
 use Rattle.octets.specs.Pieces.{pieces}
 use borrow.Author.Tests.{lt-ltb, le-ltb}
 use Rattle.wellformed.specs.declared.check.BookAnswer.the-variants.{WellFormed, NotWellFormed}

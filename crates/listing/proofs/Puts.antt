@@ -7,9 +7,9 @@ use native.Mathlib.Numerals.{add-one}
 use native.Mathlib.Omega.{arith}
 use lib.ListN.{length, take, drop, set, length-append, length-set}
 use lib.Seq.{take-at, length-take-le, set-split, append-snoc}
-use Rattle.octets.specs.Moving.{over, placed}
-use Rattle.octets.proofs.Edits.{drop-over, length-over, placed-fits}
-use Rattle.listing.specs.Field.{decimal}
+use Rattle.moving.specs.Moving.{over, placed}
+use Rattle.moving.proofs.Edits.{drop-over, length-over, placed-fits}
+use Rattle.digits.specs.Field.{decimal}
 use Rattle.listing.specs.Put.{Put}
 
 -- two edits, the second where the first ends, are one

@@ -9,9 +9,9 @@ use native.Mathlib.Omega.{arith}
 use lib.Dec.{ltb}
 use lib.ListN.{length, getD, length-append, List·getD-append}
 use borrow.Author.Tests.{ltb-true, ltb-false}
-use Rattle.listing.specs.Field.{digit, digits, decimal}
+use Rattle.digits.specs.Field.{digit, digits, decimal}
 use Rattle.listing.specs.Reading.{valueOf, ReadAgain, NoZeroInFront}
-use Rattle.listing.proofs.Spelled.{digit-number, digits-more, digits-one}
+use Rattle.digits.proofs.Letters.{digit-number, digits-more, digits-one}
 
 value-more : (xs : List ℕ) (d : ℕ) → valueOf (xs ++ (d ∷ [])) ≡ valueOf xs * 10 + (d - 0x30)
 unfolding valueOf

@@ -3,7 +3,7 @@ use mathlib.Core.Path.{_≡_, sym, _∙_}
 use mathlib.Core.List.{List}
 use Prim.Native.Nat.{ℕ}
 use lib.ListN.{length}
-use Rattle.octets.specs.Moving.{over}
+use Rattle.moving.specs.Moving.{over}
 use Rattle.listing.specs.Listing.{printed}
 
 module _ (input text : List ℕ) where

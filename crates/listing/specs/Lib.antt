@@ -1,5 +1,4 @@
 -- The listing as document 01 has it, and what the code promises.
-pub mod Field
 pub mod Reading
 pub mod Line
 pub mod Listing

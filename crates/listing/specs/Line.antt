@@ -8,7 +8,7 @@ use Rattle.octets.specs.Number.{big}
 use Rattle.nearness.specs.Bits.{sharedBits}
 use Rattle.records.specs.Record.{bucketIn, indexIn, timeIn, addressIn}
 use Rattle.book.specs.Layout.{markIn, versionIn, stateIn, startingIn, depthIn, capacityIn, countIn}
-use Rattle.listing.specs.Field.{decimal, hex}
+use Rattle.digits.specs.Field.{decimal, hex}
 
 abbrev pub space : ℕ
 space = 0x20

@@ -3,7 +3,7 @@ use mathlib.Core.Path.{_≡_}
 use mathlib.Core.List.{List, [], _∷_}
 use Prim.Native.Nat.{ℕ, _+_, _-_, _*_, _^_, _<_}
 use lib.ListN.{length, getD}
-use Rattle.listing.specs.Field.{decimal}
+use Rattle.digits.specs.Field.{decimal}
 
 -- the number that decimal digits are
 unfoldable pub valueOf : List ℕ → ℕ

@@ -11,7 +11,7 @@ use Rattle.settling.specs.Book.{good}
 use Rattle.book.specs.Layout.{laid}
 use Rattle.wellformed.specs.Check.{labelled, sized, levelled, stands, allStand, rises, zeros, wellFormed}
 use Rattle.book.specs.Book.{write}
-use Rattle.listing.specs.Field.{digit, digits, decimal, hex}
+use Rattle.digits.specs.Field.{digit, digits, decimal, hex}
 use Rattle.listing.specs.Line.{line, stateWord, headerLine, recordLine, recordLines}
 use Rattle.listing.specs.Listing.{listing, printed}
 

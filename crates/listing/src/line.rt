@@ -18,7 +18,7 @@ ghost use Prim.Native.Nat.{_+_, _*_, _≤_, _<_};
 ghost use lib.ListN.{length, drop};
 ghost use Rattle.octets.specs.Pieces.{pieces};
 ghost use Rattle.book.specs.Layout.{stateIn, overlayIn, countIn};
-ghost use Rattle.listing.specs.Field.{decimal};
+ghost use Rattle.digits.specs.Field.{decimal};
 ghost use Rattle.listing.specs.Line.{space, line, stateWord, headerLine, recordLine, recordLines};
 ghost use Rattle.listing.specs.Put.{Put};
 

@@ -9,7 +9,7 @@ ghost use mathlib.Core.Path.{_≡_};
 ghost use mathlib.Core.Bool.{true};
 ghost use Prim.Native.Nat.{_≤_};
 ghost use lib.ListN.{length};
-ghost use Rattle.octets.specs.Moving.{over};
+ghost use Rattle.moving.specs.Moving.{over};
 ghost use Rattle.wellformed.specs.Check.{wellFormed};
 ghost use Rattle.listing.specs.Listing.{listing, printed};
 ghost use Rattle.listing.specs.Put.{Put};

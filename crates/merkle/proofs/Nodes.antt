@@ -6,7 +6,7 @@ use native.Mathlib.Nat.{pow-suc, div-div-eq-div-mul}
 use native.Mathlib.Omega.{arith}
 use lib.ListN.{length, take, drop, length-drop}
 use lib.Seq.{take-take, drop-drop, length-take-le}
-use Rattle.octets.proofs.Edits.{part-of-take}
+use Rattle.octets.proofs.Parts.{part-of-take}
 use Rattle.keccak.proofs.Theorems.{digest-length}
 use Rattle.merkle.specs.Tree.{width, hash, root}
 use Rattle.merkle.specs.Proof.{paired, node, beside}

@@ -8,8 +8,8 @@ use native.Mathlib.Omega.{arith}
 use lib.ListN.{length, take, drop, length-append}
 use lib.Pow.{pow-add, pow-pos}
 use lib.Seq.{take-at, take-all, length-take-le}
-use Rattle.octets.specs.Moving.{over, placed}
-use Rattle.octets.proofs.Edits.{placed-fits, length-placed}
+use Rattle.moving.specs.Moving.{over, placed}
+use Rattle.moving.proofs.Edits.{placed-fits, length-placed}
 use Rattle.merkle.specs.Tree.{padTo, width}
 use Rattle.merkle.specs.Proof.{node, beside, sisters, proofOf}
 

@@ -7,8 +7,8 @@ use native.Mathlib.Numerals.{sub-one}
 use native.Mathlib.Omega.{arith}
 use lib.ListN.{length, take, drop, replicate, length-drop, length-replicate}
 use lib.Seq.{take-all}
-use Rattle.octets.specs.Moving.{over, placed}
-use Rattle.octets.proofs.Edits.{placed-fits}
+use Rattle.moving.specs.Moving.{over, placed}
+use Rattle.moving.proofs.Edits.{placed-fits}
 use Rattle.merkle.specs.Tree.{padTo, width, hash, root}
 use Rattle.merkle.proofs.Halves.{pad-take, pad-drop, pad-first, cut-take, cut-drop, width-suc, root-cut}
 

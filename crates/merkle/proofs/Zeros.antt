@@ -9,8 +9,8 @@ use native.Mathlib.Omega.{arith}
 use lib.ListN.{length, take, drop, replicate, length-take, length-drop}
 use lib.Pow.{pow-pos, pow-mono}
 use lib.Seq.{take-all, take-take, drop-at, take-append-le, drop-append-le, length-take-le}
-use Rattle.octets.specs.Moving.{placed}
-use Rattle.octets.proofs.Edits.{part-of-take, part-length}
+use Rattle.moving.specs.Moving.{placed}
+use Rattle.octets.proofs.Parts.{part-of-take, part-length}
 use Rattle.merkle.specs.Tree.{padTo, width, hash, root}
 use Rattle.merkle.specs.Zeros.{ZeroRoots}
 use Rattle.merkle.proofs.Halves.{pad-none, width-suc, root-nothing}

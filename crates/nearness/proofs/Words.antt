@@ -13,7 +13,7 @@ use Rattle.octets.specs.Bytes.{Bytes}
 use Rattle.octets.specs.Number.{big, bigAt}
 use Rattle.octets.proofs.Bytes.{bytes-take, bytes-drop}
 use Rattle.octets.proofs.Numbers.{big-cons, big-lt, bigAt-fits}
-use Rattle.octets.proofs.Edits.{part-length}
+use Rattle.octets.proofs.Parts.{part-length}
 use Rattle.nearness.specs.Bits.{bits, bitsOf, leadingEqual, sharedBits}
 use Rattle.nearness.proofs.Leading.{equal-through, equal-stops, length-bits, zeros-lt, equal-bits}
 

@@ -6,9 +6,9 @@ use native.Mathlib.Nat.{zero-add, sub-zero, le-of-eq}
 use native.Mathlib.Omega.{arith}
 use lib.ListN.{length, set, replicate, length-append, length-replicate, replicate-append-replicate, drop-of-length-le}
 use Rattle.octets.specs.Number.{bytesOf}
-use Rattle.octets.specs.Moving.{over, placed}
+use Rattle.moving.specs.Moving.{over, placed}
 use Rattle.octets.proofs.Numbers.{length-bytesOf}
-use Rattle.octets.proofs.Edits.{placed-fits}
+use Rattle.moving.proofs.Edits.{placed-fits}
 use Rattle.book.specs.Layout.{mark, laid}
 use Rattle.book.specs.Book.{write}
 use Rattle.opening.specs.Open.{freshBook}

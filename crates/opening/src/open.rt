@@ -1,7 +1,7 @@
 // Opening a book in a lent buffer.
-use octets::moving::clear;
-use octets::moving::put;
-use octets::number::write32;
+use moving::clear;
+use moving::put;
+use moving::write32;
 ghost use mathlib.Core.Path.{_≡_};
 ghost use Prim.Native.Nat.{_+_, _*_};
 ghost use lib.ListN.{length};

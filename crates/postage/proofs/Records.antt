@@ -7,7 +7,7 @@ use native.Mathlib.Omega.{arith}
 use lib.ListN.{length, getD, take, drop, length-drop}
 use lib.Seq.{take-all, take-take, drop-length, getD-take, getD-drop}
 use Rattle.octets.specs.Pieces.{pieces}
-use Rattle.octets.proofs.Edits.{part-length, part-of-take}
+use Rattle.octets.proofs.Parts.{part-length, part-of-take}
 use Rattle.octets.proofs.Pieces.{pieces-none, pieces-more, length-pieces, piece-at}
 use Rattle.postage.specs.Batch.{recordLength, recordFrom, idOf, depthOf, count, batchAt, records}
 

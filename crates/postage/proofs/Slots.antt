@@ -10,7 +10,7 @@ use Rattle.octets.specs.Bytes.{Bytes}
 use Rattle.octets.specs.Number.{big}
 use Rattle.octets.proofs.Bytes.{bytes-take}
 use Rattle.octets.proofs.Numbers.{big-injective, bigAt-fits}
-use Rattle.octets.proofs.Edits.{part-of-take}
+use Rattle.octets.proofs.Parts.{part-of-take}
 use Rattle.nearness.specs.Bits.{bits, bitsOf}
 use Rattle.nearness.proofs.Words.{bits-big}
 use Rattle.postage.specs.Batch.{Fit, depthOf}

@@ -1,5 +1,5 @@
 // Making segment proofs, plain and anchored: the segment, seven sisters from the leaf upward, the span.
-use octets::moving::put;
+use moving::put;
 use octets::order::lesser;
 use tree::root_of;
 ghost use mathlib.Core.Path.{_≡_};

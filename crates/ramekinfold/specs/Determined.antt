@@ -12,7 +12,7 @@ use Rattle.verifying.specs.Answer.{checkedNumber, checked}
 use Rattle.merkle.specs.Segment.{segmentCount, segmentStart, segmentOf}
 use Rattle.merkle.specs.Proof.{proofOf}
 use Rattle.nearness.specs.Near.{nearnessOf}
-use Rattle.postage.specs.Digest.{stampDigest}
+use Rattle.signing.specs.Digest.{stampDigest}
 use Rattle.postage.specs.Rules.{stampNumber, checked as stampChecked}
 use Rattle.opening.specs.Open.{openAnswer, openBytes, openNumber}
 use Rattle.wellformed.specs.Check.{checked as bookChecked, bookNumber}

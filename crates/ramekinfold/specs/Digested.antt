@@ -3,8 +3,8 @@ use mathlib.Core.List.{List}
 use Prim.Native.Nat.{ℕ}
 use Rattle.chunk.specs.declared.addresses.Addressed.{Addressed}
 use Rattle.chunk.specs.Answer.{addressNumber}
-use Rattle.postage.specs.declared.digest.StampDigested.{StampDigested}
-use Rattle.postage.specs.Digest.{digestNumber}
+use Rattle.signing.specs.declared.digest.StampDigested.{StampDigested}
+use Rattle.signing.specs.Digest.{digestNumber}
 use Rattle.ramekinfold.specs.declared.hashing.Digested.{Digested}
 
 abbrev pub digested : ℕ → List ℕ → Digested

@@ -1,5 +1,5 @@
 -- An answer of 1 or from 10 up is a refusal: it leaves every lent byte as it was, and hands back zeros for a commitment. The calls of
--- books and the draw; those of chunks and stamps have their own in crates/chunk and crates/postage.
+-- books and the draw; those of chunks and stamps have their own in crates/chunk and crates/signing.
 use mathlib.Core.List.{List}
 use mathlib.Core.Logic.{inl, inr}
 use mathlib.Core.Path.{_≡_, refl, _∙_, sym, ap, subst}

@@ -19,9 +19,11 @@ pub extern "C" fn rkf_draw(book: &[u8], shelf: &[u8], anchor: &[u8], sample: &mu
     let d = draw::draw(book, shelf, anchor, sample);
     let answer = d.answer;
     let commitment = d.commitment;
+    let number = answer.number();
+    let place = answer.place();
     Drawn {
-        answer: answer.number(),
-        place: answer.place(),
+        answer: number,
+        place,
         commitment,
     }
 }

@@ -1,7 +1,7 @@
 // Stamps: the digest that an owner signs, and the rules.
 use crate::hashing::Digested;
 ghost use mathlib.Core.Path.{_≡_};
-ghost use Rattle.postage.specs.Digest.{stampDigest};
+ghost use Rattle.signing.specs.Digest.{stampDigest};
 ghost use Rattle.postage.specs.Rules.{stampNumber, checked};
 ghost use Rattle.ramekinfold.specs.Digested.{ofStampDigested};
 
@@ -9,7 +9,7 @@ ghost use Rattle.ramekinfold.specs.Digested.{ofStampDigested};
 pub extern "C" fn rkf_stamp_digest(address: &[u8], stamp: &[u8]) -> Digested
     ensures { λ r. ⌜ r ≡ ofStampDigested (stampDigest (now (address .entry)) (now (stamp .entry))) ⌝ }
 {
-    let d = postage::stamp_digest(address, stamp);
+    let d = signing::stamp_digest(address, stamp);
     let answer = d.answer;
     let digest = d.digest;
     Digested {

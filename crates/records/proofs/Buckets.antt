@@ -11,7 +11,7 @@ use Rattle.octets.specs.Bytes.{Bytes}
 use Rattle.octets.specs.Number.{big, bigAt, bytesOf}
 use Rattle.octets.proofs.Bytes.{bytes-take, bytes-drop}
 use Rattle.octets.proofs.Numbers.{big-append, big-lt, bytesOf-big, bigAt-fits}
-use Rattle.octets.proofs.Edits.{part-length}
+use Rattle.octets.proofs.Parts.{part-length}
 use Rattle.nearness.proofs.Words.{shared-zeros}
 use Rattle.records.specs.Record.{slot, nearOf}
 

@@ -6,9 +6,9 @@ use native.Mathlib.Omega.{arith}
 use lib.ListN.{length, set, replicate, length-append, length-set, length-replicate}
 use borrow.Author.Tests.{le-leb}
 use Rattle.octets.specs.Number.{bytesOf}
-use Rattle.octets.specs.Moving.{over, placed}
+use Rattle.moving.specs.Moving.{over, placed}
 use Rattle.octets.proofs.Numbers.{length-bytesOf}
-use Rattle.octets.proofs.Edits.{placed-fits}
+use Rattle.moving.proofs.Edits.{placed-fits}
 use Rattle.settling.specs.Book.{overfull}
 use Rattle.book.specs.Layout.{laid}
 use Rattle.book.specs.Book.{Book, inState, write}

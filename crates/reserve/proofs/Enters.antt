@@ -8,7 +8,7 @@ use native.Mathlib.Omega.{arith}
 use lib.ListN.{length, getD, take, drop, set}
 use native.Mathlib.Nat.{le-refl, eq-or-lt-of-le}
 use borrow.Author.Tests.{eq-eqb}
-use Rattle.octets.specs.Moving.{placed}
+use Rattle.moving.specs.Moving.{placed}
 use Rattle.settling.specs.Book.{good}
 use Rattle.settling.proofs.Cases.{Limit, within, beyond, limit}
 use Rattle.settling.proofs.Places.{each-at}

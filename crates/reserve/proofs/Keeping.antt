@@ -6,9 +6,9 @@ use Prim.Native.Nat.{ℕ, _+_, _-_, _*_, _≤_}
 use native.Mathlib.Omega.{arith}
 use lib.ListN.{length, take, set, replicate, length-append, length-set, length-replicate, replicate-append-replicate}
 use Rattle.octets.specs.Number.{bytesOf}
-use Rattle.octets.specs.Moving.{over}
+use Rattle.moving.specs.Moving.{over}
 use Rattle.octets.proofs.Numbers.{length-bytesOf}
-use Rattle.octets.proofs.Edits.{placed-fits, length-placed}
+use Rattle.moving.proofs.Edits.{placed-fits, length-placed}
 use Rattle.settling.specs.Book.{inside}
 use Rattle.settling.proofs.Inside.{inside-less, each-inside}
 use Rattle.book.specs.Shape.{shapeIn}

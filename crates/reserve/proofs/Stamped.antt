@@ -10,8 +10,9 @@ use Rattle.octets.specs.Bytes.{Bytes}
 use Rattle.octets.specs.Number.{big}
 use Rattle.octets.proofs.Bytes.{bytes-append, bytes-take, bytes-drop}
 use Rattle.octets.proofs.Numbers.{bigAt-fits}
-use Rattle.octets.specs.Moving.{over, placed}
-use Rattle.octets.proofs.Edits.{part-length, part-of-take, placed-fits}
+use Rattle.moving.specs.Moving.{over, placed}
+use Rattle.octets.proofs.Parts.{part-length, part-of-take}
+use Rattle.moving.proofs.Edits.{placed-fits}
 use Rattle.postage.specs.declared.rules.StampAnswer.{StampAnswer}
 use Rattle.postage.specs.declared.rules.StampAnswer.the-variants.{Passes, BadList, WrongLength, NoBatch, OtherBucket, IndexPast, NotOwner}
 use Rattle.postage.specs.Rules.{stampNumber, checked}

@@ -7,9 +7,9 @@ use lib.ListN.{length, take, drop, set, replicate, length-append, length-drop, l
 use lib.Seq.{take-at, drop-at, take-append-add, drop-append-add, set-split}
 use borrow.Author.Tests.{le-leb, eq-eqb}
 use Rattle.octets.specs.Number.{bytesOf}
-use Rattle.octets.specs.Moving.{over, placed, inserted}
+use Rattle.moving.specs.Moving.{over, placed, inserted}
 use Rattle.octets.proofs.Numbers.{length-bytesOf}
-use Rattle.octets.proofs.Edits.{placed-fits, inserted-fits, length-inserted}
+use Rattle.moving.proofs.Edits.{placed-fits, inserted-fits, length-inserted}
 use Rattle.settling.specs.Meaning.{Each}
 use Rattle.book.specs.Layout.{laid}
 use Rattle.book.specs.Book.{Book}

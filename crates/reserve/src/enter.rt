@@ -10,7 +10,7 @@ use filing::edit::burst;
 use filing::keep::keep_inside;
 use filing::least::least_depth;
 use filing::near::near;
-use octets::moving::put;
+use moving::put;
 use records::rank::Choice;
 use records::rank::choose;
 ghost use mathlib.Core.Path.{_≡_};

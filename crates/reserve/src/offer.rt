@@ -1,7 +1,7 @@
 // An offer to a book: address, stamp and the account that signed it.
 use crate::enter::enter;
 use book::header::overfull;
-use octets::moving::put;
+use moving::put;
 use postage::StampAnswer;
 use postage::check_stamp;
 use wellformed::check::BookAnswer;

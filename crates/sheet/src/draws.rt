@@ -7,7 +7,7 @@ use crate::tally::Tally;
 use book::record::record_at;
 use chunk::address;
 use draw::draw;
-use octets::moving::put;
+use moving::put;
 use octets::number::read64;
 
 // The span of a chunk of one byte.

@@ -2,7 +2,7 @@
 use crate::tally::Tally;
 use keccak::Sponge;
 use keccak::keccak256;
-use octets::moving::put;
+use moving::put;
 
 // Padding, parts, and a stale state.
 pub(crate) fn run(tally: Tally) -> Tally {

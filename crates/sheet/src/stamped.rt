@@ -1,8 +1,8 @@
 // The batch of the examples, its stamps, and offers with them to a book of capacity 16.
-use octets::moving::put;
+use moving::put;
+use moving::write32;
+use moving::write64;
 use octets::number::read16;
-use octets::number::write32;
-use octets::number::write64;
 use opening::open::open;
 use reserve::offer::offer;
 

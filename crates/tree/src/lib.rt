@@ -1,6 +1,6 @@
 // The tree over a chunk's data. Every hash takes the prefix before its message: none for a plain tree, the anchor for an anchored one.
 use keccak::Sponge;
-use octets::moving::put;
+use moving::put;
 use octets::order::lesser;
 ghost use mathlib.Core.Path.{_≡_};
 ghost use Prim.Native.Nat.{_-_, _≤_};

@@ -1,5 +1,5 @@
 // Checking segment proofs, plain and anchored: the address that a proof leads to, against the one asked for.
-use octets::moving::put;
+use moving::put;
 use octets::order::Order;
 use octets::order::compare;
 use tree::hash;

@@ -18,7 +18,7 @@ use Rattle.octets.specs.Number.{big}
 use Rattle.octets.specs.Pieces.{pieces}
 use Rattle.octets.proofs.Bytes.{bytes-take, bytes-drop}
 use Rattle.octets.proofs.Ordered.{compared, number-less, number-same, number-more, order-number}
-use Rattle.octets.proofs.Edits.{part-length}
+use Rattle.octets.proofs.Parts.{part-length}
 use Rattle.records.specs.Record.{slot}
 use Rattle.wellformed.specs.Check.{stands, allStand, rises, zeros}
 use Rattle.book.proofs.Truths.{paired}

@@ -7,7 +7,7 @@ use native.Mathlib.Omega.{arith}
 use borrow.Author.Needs.{needs}
 use denote.Ref.{now}
 use lib.ListN.{length, take, drop}
-use Rattle.octets.proofs.Edits.{length-placed}
+use Rattle.moving.proofs.Edits.{length-placed}
 use Rattle.merkle.specs.Tree.{width, hash}
 use Rattle.merkle.proofs.Halves.{width-suc}
 use Rattle.merkle.proofs.Zeros.{Rows, rows-none, rows-more, rows-all, width-tells}

@@ -1,7 +1,7 @@
 -- Each refusal is that of the part that fails.
 use mathlib.Core.Path.{sym, _∙_}
 use borrow.Author.Needs.{needs}
-use Rattle.draw.proofs.Cells.{not-formed, is-formed, lent-bad, lent-overfull, lent-anchor, lent-sample, lent-fine}
+use Rattle.draw.proofs.Lending.{not-formed, is-formed, lent-bad, lent-overfull, lent-anchor, lent-sample, lent-fine}
 use Rattle.draw.proofs.drawing.lent_answer.Statement.{statement}
 use Rattle.draw.proofs.drawing.lent_answer.Tie as tie
 use Rattle.draw.proofs.drawing.lent_answer.Reads as reads

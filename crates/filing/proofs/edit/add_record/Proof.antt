@@ -5,7 +5,7 @@ use mathlib.Core.Path.{ap, _∙_}
 use mathlib.Core.List.{List}
 use Prim.Native.Nat.{ℕ, _+_}
 use Rattle.octets.specs.Number.{bytesOf}
-use Rattle.octets.specs.Moving.{placed}
+use Rattle.moving.specs.Moving.{placed}
 use Rattle.filing.specs.Edit.{added}
 use Rattle.filing.proofs.edit.add_record.Statement.{statement}
 use Rattle.filing.proofs.edit.add_record.Tie as tie

@@ -7,8 +7,8 @@ use native.Mathlib.Omega.{arith}
 use Prim.Native.Nat.{ℕ, _-_}
 use lib.ListN.{length, set, replicate, length-set}
 use Rattle.octets.specs.Number.{bytesOf}
-use Rattle.octets.specs.Moving.{placed}
-use Rattle.octets.proofs.Edits.{length-placed}
+use Rattle.moving.specs.Moving.{placed}
+use Rattle.moving.proofs.Edits.{length-placed}
 use Rattle.filing.specs.Edit.{burstBytes}
 use Rattle.filing.proofs.edit.burst.Statement.{statement}
 use Rattle.filing.proofs.edit.burst.Tie as tie

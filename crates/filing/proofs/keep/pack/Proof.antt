@@ -5,7 +5,7 @@ use mathlib.Core.Path.{_≡_, refl, _∙_, ap}
 use native.Mathlib.Omega.{arith}
 use Prim.Native.Nat.{ℕ, _+_, _-_, _*_, _≤_}
 use lib.ListN.{length}
-use Rattle.octets.proofs.Edits.{length-lowered}
+use Rattle.moving.proofs.Edits.{length-lowered}
 use Rattle.filing.specs.Keep.{Packed}
 use Rattle.filing.proofs.Packing
 use Rattle.filing.proofs.keep.pack.Statement.{statement}

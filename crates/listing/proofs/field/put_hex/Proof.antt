@@ -4,9 +4,9 @@ use mathlib.Core.Path.{_≡_, sym, _∙_}
 use native.Mathlib.Omega.{arith}
 use borrow.Author.Needs.{needs}
 use lib.ListN.{length, take, drop}
-use Rattle.octets.proofs.Edits.{part-length}
-use Rattle.listing.specs.Field.{hex}
-use Rattle.listing.proofs.Spelled
+use Rattle.octets.proofs.Parts.{part-length}
+use Rattle.digits.specs.Field.{hex}
+use Rattle.digits.proofs.Letters
 use Rattle.listing.proofs.Puts
 use Rattle.listing.proofs.field.put_hex.Statement.{statement}
 use Rattle.listing.proofs.field.put_hex.Tie as tie
@@ -18,8 +18,8 @@ returns c =
     let a = h .before .before .before .before .before .before .before .args in
     let s = a .s .now in
     let four = take 4 (drop (a .from) s) in
-    let e : h .hex-of .result ≡ hex four = h .hex-of .ensures ∙ sym (Spelled.hex-four s (a .from) (omega arith)) in
-    let size : length (hex four) ≤ 8 = omega (arith, Spelled.hex-fits four, part-length s (a .from) 4 (omega arith)) in
+    let e : h .hex-of .result ≡ hex four = h .hex-of .ensures ∙ sym (Letters.hex-four s (a .from) (omega arith)) in
+    let size : length (hex four) ≤ 8 = omega (arith, Letters.hex-fits four, part-length s (a .from) 4 (omega arith)) in
     let p = rw e at (w .put-field .ensures) in
     (p, Puts.put-within (hex four) (a .end) 8 size p)
 

@@ -5,8 +5,8 @@ use native.Mathlib.Omega.{arith}
 use borrow.Author.Needs.{needs}
 use lib.ListN.{length, take, drop, length-drop}
 use lib.Seq.{take-all}
-use Rattle.listing.specs.Field.{decimal}
-use Rattle.listing.proofs.Spelled
+use Rattle.digits.specs.Field.{decimal}
+use Rattle.digits.proofs.Letters
 use Rattle.listing.proofs.Puts
 use Rattle.listing.proofs.field.put_number.Statement.{statement}
 use Rattle.listing.proofs.field.put_number.Tie as tie
@@ -16,12 +16,13 @@ returns c =
     let w = c .before .before in
     let d = w .before .before .before .before .before in
     let a = d .before .before .args in
-    let b = d .digits-of .result .bytes in
-    let from = d .digits-of .result .from in
-    let all : length (drop from b) ≤ 20 - from = omega (arith, length-drop from b, d .digits-of .ensures .0) in
-    let e : take (20 - from) (drop from b) ≡ decimal (a .n) = take-all (20 - from) (drop from b) all ∙ d .digits-of .ensures .2 in
+    let b = d .decimal-of .result .bytes in
+    let from = d .decimal-of .result .from in
+    let there = Letters.spelled-there (a .n) (d .decimal-of .result) (d .decimal-of .ensures .0) in
+    let all : length (drop from b) ≤ 20 - from = omega (arith, length-drop from b, there .0) in
+    let e : take (20 - from) (drop from b) ≡ decimal (a .n) = take-all (20 - from) (drop from b) all ∙ there .1 .1 in
     let p = rw e at (w .put-field .ensures) in
-    (p, Puts.put-within (decimal (a .n)) (a .end) 20 (Spelled.decimal-fits (a .n)) p)
+    (p, Puts.put-within (decimal (a .n)) (a .end) 20 (Letters.decimal-fits (a .n)) p)
 
 pub put-number-spec : {M : Type 1} → statement M
 put-number-spec =

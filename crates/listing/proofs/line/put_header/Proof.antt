@@ -5,7 +5,7 @@ use native.Mathlib.Nat.{le-of-eq}
 use native.Mathlib.Omega.{arith}
 use borrow.Author.Needs.{needs}
 use Rattle.octets.proofs.Numbers.{bigAt-fits}
-use Rattle.octets.proofs.Edits.{part-length}
+use Rattle.octets.proofs.Parts.{part-length}
 use Rattle.book.specs.Layout.{markIn, stateIn}
 use Rattle.book.proofs.Fields
 use Rattle.listing.specs.Line.{space, line, stateWord, headerLine}

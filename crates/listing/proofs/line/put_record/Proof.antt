@@ -6,11 +6,11 @@ use borrow.Author.Needs.{needs}
 use lib.ListN.{length, take, drop}
 use lib.Seq.{take-take}
 use Rattle.octets.proofs.Numbers.{bigAt-fits}
-use Rattle.octets.proofs.Edits.{part-length}
+use Rattle.octets.proofs.Parts.{part-length}
 use Rattle.nearness.specs.Near.{bitsIn}
 use Rattle.records.specs.Record.{addressIn}
 use Rattle.book.proofs.Fields
-use Rattle.listing.specs.Field.{hex}
+use Rattle.digits.specs.Field.{hex}
 use Rattle.listing.specs.Line.{space, line, recordLine}
 use Rattle.listing.proofs.Puts
 use Rattle.listing.proofs.line.put_record.Statement.{statement}

@@ -5,8 +5,9 @@ use native.Mathlib.Nat.{sub-zero}
 use native.Mathlib.Omega.{arith}
 use borrow.Author.Needs.{needs}
 use lib.ListN.{length, take, drop, length-append}
-use Rattle.octets.specs.Moving.{over}
-use Rattle.octets.proofs.Edits.{part-length, over-nil}
+use Rattle.moving.specs.Moving.{over}
+use Rattle.octets.proofs.Parts.{part-length}
+use Rattle.moving.proofs.Edits.{over-nil}
 use Rattle.octets.specs.Pieces.{pieces}
 use Rattle.book.specs.Layout.{countIn, overlayIn}
 use Rattle.book.proofs.Records.{record-bytes, record-length}

@@ -7,7 +7,7 @@ use native.Mathlib.Omega.{arith}
 use borrow.Author.Needs.{needs}
 use denote.Ref.{now}
 use lib.ListN.{length, take}
-use Rattle.octets.proofs.Edits.{length-placed}
+use Rattle.moving.proofs.Edits.{length-placed}
 use Rattle.merkle.specs.Tree.{padTo}
 use Rattle.merkle.specs.Proof.{sisters}
 use Rattle.merkle.proofs.Sisters.{sister-put, beside-fits}

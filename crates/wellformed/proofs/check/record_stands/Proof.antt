@@ -6,7 +6,7 @@ use borrow.Author.Needs.{needs}
 use borrow.Author.Tests.{le-ltb, lt-ltb, eq-eqb, ne-eqb}
 use lib.Dec.{leb}
 use Rattle.nearness.specs.Near.{bitsIn}
-use Rattle.octets.proofs.Edits.{part-length}
+use Rattle.octets.proofs.Parts.{part-length}
 use Rattle.records.specs.Record.{bucketIn, indexIn, addressIn, bucketOf}
 use Rattle.wellformed.specs.Check.{stands}
 use Rattle.book.proofs.Fields

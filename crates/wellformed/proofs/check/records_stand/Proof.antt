@@ -7,7 +7,7 @@ use borrow.Author.Needs.{needs}
 use borrow.Author.Tests.{not-true, not-false}
 use lib.ListN.{take, drop}
 use Rattle.octets.specs.Pieces.{pieces}
-use Rattle.octets.proofs.Edits.{part-length}
+use Rattle.octets.proofs.Parts.{part-length}
 use Rattle.book.specs.Layout.{depthIn, overlayIn}
 use Rattle.wellformed.specs.Check.{stands}
 use Rattle.wellformed.proofs.Tests.{bothHold, turn, passed}
