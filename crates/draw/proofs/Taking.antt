@@ -1,13 +1,13 @@
 -- A cell taken: what was read of it, and its pair among those that are held.
-use mathlib.Core.Bool.{true, false, false≢true}
-use mathlib.Core.Path.{_≡_, refl, sym, ap, subst, _∙_}
+use mathlib.Core.Bool.{true, false}
+use mathlib.Core.Path.{_≡_, sym, ap, _∙_}
 use mathlib.Core.List.{List}
 use Prim.Native.Nat.{ℕ, _≤_}
 use native.Mathlib.Omega.{arith}
 use lib.ListN.{length, take}
 use Rattle.octets.specs.Pieces.{pieces}
 use Rattle.shelf.specs.declared.cell.CellRead.{CellRead}
-use Rattle.shelf.specs.Cell.{pairOf, cellIn}
+use Rattle.shelf.specs.Cell.{cellIn}
 use Rattle.shelf.specs.Read.{cellAnswer, cellRead}
 use Rattle.shelf.proofs.Pairs.{pair-length}
 use Rattle.shelf.proofs.Cells.{pair-read, read-sound, read-answer}

@@ -2,7 +2,6 @@
 use digits::decimal_of;
 use digits::hex_of;
 use moving::put;
-ghost use mathlib.Core.Path.{_≡_};
 ghost use mathlib.Core.List.{[], _∷_, _++_};
 ghost use Prim.Native.Nat.{_+_, _≤_, _<_};
 ghost use lib.ListN.{length, take, drop};

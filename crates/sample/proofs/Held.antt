@@ -1,5 +1,4 @@
 -- The buffer of sixteen pairs: what it holds once a pair has entered, and what is handed out of it.
-use mathlib.Core.Bool.{Bool, true, false, cond, _&&_}
 use mathlib.Core.Path.{_≡_, refl, sym, ap, ap₂, subst, _∙_}
 use mathlib.Core.Logic.{_⊎_, inl, inr, ⊎-elim}
 use mathlib.Core.List.{List, [], _∷_, _++_, append-assoc, List·Memᴰ, List·Memᴰ·cases-cons, List·Memᴰ·not-nil}
@@ -11,7 +10,6 @@ use lib.Seq.{take-at, drop-at, drop-drop, length-take-le}
 use borrow.Author.Tests.{le-leb, lt-leb, eq-eqb, ne-eqb}
 use Rattle.moving.specs.Moving.{inserted}
 use Rattle.octets.specs.Pieces.{pieces}
-use Rattle.octets.proofs.Parts.{part-length}
 use Rattle.moving.proofs.Edits.{inserted-fits}
 use Rattle.octets.proofs.Pieces.{length-pieces, pieces-more, pieces-none}
 use Rattle.keccak.specs.Sponge.{joinedParts}

@@ -10,7 +10,7 @@ use Rattle.keccak.specs.Collision.{Collision}
 use Rattle.merkle.specs.Tree.{padTo, hash, root, addressOf}
 use Rattle.merkle.proofs.Theorems.{address-length}
 use Rattle.merkle.proofs.Roots.{chunk-same, address-is}
-use Rattle.merkle.proofs.Collide.{Among, among-left, among-right, _>>=_}
+use Rattle.merkle.proofs.Collide.{Among, among-left, _>>=_}
 use Rattle.shelf.specs.Cell.{Cell, ownAddress, pairOf, cellHashed, cellIn}
 
 pub own-length : (cell : Cell) → length (ownAddress cell) ≡ 32

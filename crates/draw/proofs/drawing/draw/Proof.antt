@@ -1,6 +1,5 @@
 -- The first refusal speaks; past the book and the lengths, what the walk left is handed on.
 use mathlib.Core.Path.{_≡_, sym, _∙_}
-use native.Mathlib.Omega.{arith}
 use borrow.Author.Needs.{needs}
 use borrow.Author.Tests.{not-true, not-false}
 use Rattle.draw.specs.declared.answer.DrawAnswer.the-variants.{Done}

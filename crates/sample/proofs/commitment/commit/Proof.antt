@@ -1,5 +1,4 @@
 -- Nothing where a guard fails; past them the sixteen are written and hashed.
-use native.Mathlib.Omega.{arith}
 use borrow.Author.Needs.{needs}
 use Rattle.sample.proofs.Held.{not-sixteen, not-held, not-lent, handed-out}
 use Rattle.sample.proofs.commitment.commit.Statement.{statement}

@@ -3,7 +3,7 @@ use mathlib.Core.Bool.{true}
 use mathlib.Core.Path.{_≡_, sym, ap, _∙_}
 use borrow.Author.Needs.{needs}
 use borrow.Author.Tests.{not-true, not-false}
-use Rattle.shelf.specs.Read.{isSound, cellAnswer}
+use Rattle.shelf.specs.Read.{isSound}
 use Rattle.shelf.proofs.Cells.{Whole, cell-sound, wrong-is, sound-is, size-read}
 use Rattle.shelf.proofs.cell.read_cell.Statement.{statement}
 use Rattle.shelf.proofs.cell.read_cell.Tie as tie
