@@ -6,51 +6,39 @@ use crate::chunks;
 use crate::draws;
 use crate::hashes;
 use crate::stamps;
-ghost use mathlib.Core.Path.{_≡_};
+use verdict::equal::Verdict;
+use verdict::equal::judged_bytes;
 
-pub(crate) enum Verdict {
-    Equal,
-    Differs,
+pub(crate) enum Outcome {
+    Judged(Verdict),
     NotUnderstood,
 }
 
-// Runs the case: the last field is what is to come back.
-pub(crate) fn tried(case: &[u8], came: &mut [u8]) -> Verdict {
+// Runs the case: a call, how many fields it has, and those.
+pub(crate) fn tried(case: &[u8], came: &mut [u8]) -> Outcome {
     if case.len() < 2 {
-        return Verdict::NotUnderstood;
+        return Outcome::NotUnderstood;
     }
-    let call = case[0];
-    let count = wide(case[1]);
-    let rest = &case[2..];
+    ran(case[0], case[1], &case[2..], came)
+}
+
+// The last field is what is to come back.
+fn ran(call: u8, count: u8, rest: &[u8], came: &mut [u8]) -> Outcome {
+    let count = count as usize;
     if count == 0 {
-        return Verdict::NotUnderstood;
+        return Outcome::NotUnderstood;
     }
     if needed(call) != count {
-        return Verdict::NotUnderstood;
+        return Outcome::NotUnderstood;
     }
     if fields(rest) != count {
-        return Verdict::NotUnderstood;
+        return Outcome::NotUnderstood;
     }
     let size = made(call, rest, came);
     if came.len() < size {
-        return Verdict::Differs;
+        return Outcome::Judged(Verdict::Differs);
     }
-    judged(field(rest, count - 1), &came[0..size])
-}
-
-fn wide(byte: u8) -> usize {
-    byte as usize
-}
-
-// Equal is said only where what came is, byte for byte, what the case expects.
-fn judged(expected: &[u8], came: &[u8]) -> Verdict
-    ensures { λ r. ⌜ (r ≡ Verdict.Equal → now (expected .entry) ≡ now (came .entry)) ⌝ }
-{
-    if check::same(expected, came) {
-        Verdict::Equal
-    } else {
-        Verdict::Differs
-    }
+    Outcome::Judged(judged_bytes(field(rest, count - 1), &came[0..size]))
 }
 
 // How many fields a case of this call has; a call that is not known has none.
