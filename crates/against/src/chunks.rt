@@ -10,7 +10,7 @@ use octets::number::read64;
 // Lays in `came` what the call hands back, and says how many bytes that is.
 pub(crate) fn made(call: u8, rest: &[u8], came: &mut [u8]) -> usize {
     match call {
-        5 => laid(chunk::address(field(rest, 0), field(rest, 1)), came),
+        5 => address(rest, came),
         6 => anchored_address(rest, came),
         7 => segment_count(rest, came),
         8 => segment(rest, came),
@@ -25,6 +25,10 @@ fn laid(found: Addressed, came: &mut [u8]) -> usize {
     write32(came, 0, answer.number());
     put(came, 4, &digest);
     36
+}
+
+fn address(rest: &[u8], came: &mut [u8]) -> usize {
+    laid(chunk::address(field(rest, 0), field(rest, 1)), came)
 }
 
 fn anchored_address(rest: &[u8], came: &mut [u8]) -> usize {

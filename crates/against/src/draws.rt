@@ -1,6 +1,7 @@
 // Call 18: the draw.
 use crate::case::field;
 use crate::case::lent_end;
+use draw::DrawResult;
 use moving::put;
 use moving::write32;
 
@@ -18,10 +19,14 @@ pub(crate) fn draw(rest: &[u8], came: &mut [u8]) -> usize {
         field(rest, 2),
         &mut came[40..end],
     );
+    laid(result, came);
+    end
+}
+
+fn laid(result: DrawResult, came: &mut [u8]) {
     let answer = result.answer;
     let commitment = result.commitment;
     write32(came, 0, answer.number());
     write32(came, 4, answer.place());
     put(came, 8, &commitment);
-    end
 }

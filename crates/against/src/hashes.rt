@@ -8,11 +8,24 @@ use octets::number::read64;
 // Lays in `came` what the call hands back, and says how many bytes that is.
 pub(crate) fn made(call: u8, rest: &[u8], came: &mut [u8]) -> usize {
     match call {
-        1 => laid(keccak::keccak256(field(rest, 0)), came),
+        1 => keccak256(rest, came),
         2 => sponge_laid(Sponge::new(), came),
-        3 => sponge_laid(sponge(field(rest, 0)).absorb(field(rest, 1)), came),
-        _ => laid(sponge(field(rest, 0)).finish(), came),
+        3 => absorb(rest, came),
+        _ => finish(rest, came),
     }
+}
+
+fn keccak256(rest: &[u8], came: &mut [u8]) -> usize {
+    laid(keccak::keccak256(field(rest, 0)), came)
+}
+
+fn absorb(rest: &[u8], came: &mut [u8]) -> usize {
+    let absorbed = sponge(field(rest, 0)).absorb(field(rest, 1));
+    sponge_laid(absorbed, came)
+}
+
+fn finish(rest: &[u8], came: &mut [u8]) -> usize {
+    laid(sponge(field(rest, 0)).finish(), came)
 }
 
 fn laid(digest: [u8; 32], came: &mut [u8]) -> usize {

@@ -7,7 +7,7 @@ mod hashes;
 mod run;
 mod stamps;
 mod tally;
-mod verdict;
+mod trial;
 
 use libc::STDOUT_FILENO;
 

@@ -1,6 +1,6 @@
 // A run over the file: its count of cases, then the cases, each its length and so many bytes.
 use crate::tally::Tally;
-use crate::verdict::tried;
+use crate::trial::tried;
 use octets::number::read32;
 ghost use Prim.Native.Nat.{_≤_};
 ghost use lib.ListN.{length};

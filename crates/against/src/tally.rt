@@ -1,6 +1,10 @@
 // What the cases came to, call by call.
-use crate::verdict::Verdict;
+use crate::trial::Outcome;
 use libc::STDOUT_FILENO;
+use verdict::count::one_more;
+use verdict::equal::Verdict;
+ghost use Prim.Native.Nat.{_≤_};
+ghost use lib.ListN.{length};
 
 // How many cases of a kind are named before the rest are only counted.
 const FEW: u64 = 10;
@@ -32,8 +36,19 @@ impl Tally {
     }
 
     // One case more, named where it is not as it should be.
-    pub(crate) fn with(mut self, call: u8, verdict: Verdict) -> Tally {
+    pub(crate) fn with(mut self, call: u8, outcome: Outcome) -> Tally {
         self.run = one_more(self.run);
+        match outcome {
+            Outcome::Judged(verdict) => self.judged(call, verdict),
+            Outcome::NotUnderstood => {
+                name(self.not_understood, self.run, b" is not understood\n");
+                self.not_understood = one_more(self.not_understood);
+                self
+            }
+        }
+    }
+
+    fn judged(mut self, call: u8, verdict: Verdict) -> Tally {
         match verdict {
             Verdict::Equal => {
                 let equal = self.equal;
@@ -49,11 +64,6 @@ impl Tally {
                 self.differing = one_more(self.differing);
                 self
             }
-            Verdict::NotUnderstood => {
-                name(self.not_understood, self.run, b" is not understood\n");
-                self.not_understood = one_more(self.not_understood);
-                self
-            }
         }
     }
 
@@ -61,24 +71,12 @@ impl Tally {
     pub(crate) fn report(self) {
         let equal = self.equal;
         let differ = self.differ;
-        line(b"keccak256: ", equal[1], differ[1]);
-        line(b"sponge: ", equal[2], differ[2]);
-        line(b"absorb: ", equal[3], differ[3]);
-        line(b"finish: ", equal[4], differ[4]);
-        line(b"address: ", equal[5], differ[5]);
-        line(b"anchored_address: ", equal[6], differ[6]);
-        line(b"segment_count: ", equal[7], differ[7]);
-        line(b"segment: ", equal[8], differ[8]);
-        line(b"make_proof: ", equal[9], differ[9]);
-        line(b"check_proof: ", equal[10], differ[10]);
-        line(b"nearness: ", equal[11], differ[11]);
-        line(b"stamp_digest: ", equal[12], differ[12]);
-        line(b"check_stamp: ", equal[13], differ[13]);
-        line(b"open: ", equal[14], differ[14]);
-        line(b"check_book: ", equal[15], differ[15]);
-        line(b"higher: ", equal[16], differ[16]);
-        line(b"offer: ", equal[17], differ[17]);
-        line(b"draw: ", equal[18], differ[18]);
+        lines(
+            b"keccak256: sponge: absorb: finish: address: anchored_address: segment_count: segment: make_proof: check_proof: \
+nearness: stamp_digest: check_stamp: open: check_book: higher: offer: draw: ",
+            equal,
+            differ,
+        );
         self.last_lines();
     }
 
@@ -98,17 +96,38 @@ fn counted(counts: [u64; CALLS], call: u8) -> [u64; CALLS] {
     counts
 }
 
-// A count that can go no higher stays.
-fn one_more(n: u64) -> u64 {
-    if n < u64::MAX { n + 1 } else { n }
-}
-
 // Names a case, where few of its kind came before it.
 fn name(before: u64, case: u64, what: &[u8]) {
     if before < FEW {
         io::write_all(STDOUT_FILENO, b"case ");
         say(case, what);
     }
+}
+
+// A line for each call, whose names stand in a row.
+fn lines(names: &[u8], equal: [u64; CALLS], differ: [u64; CALLS]) {
+    let mut at = 0;
+    for call in 1..CALLS {
+        let end = name_end(names, at);
+        line(&names[at..end], equal[call], differ[call]);
+        at = end;
+    }
+}
+
+// Where the name that begins at a place ends, with the blank behind it.
+fn name_end(names: &[u8], at: usize) -> usize
+    requires { ⌜ at ≤ length (now names) ⌝ }
+    ensures { λ r. ⌜ (at ≤ r) × (r ≤ length (now (names .entry))) ⌝ }
+{
+    let mut end = at;
+    while end < names.len() {
+        let last = names[end];
+        end += 1;
+        if last == b' ' {
+            return end;
+        }
+    }
+    end
 }
 
 fn line(call: &[u8], equal: u64, differ: u64) {

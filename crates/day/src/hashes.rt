@@ -3,19 +3,19 @@ use crate::machine::Machine;
 use crate::text::hex;
 use crate::text::number;
 use crate::text::say;
-use crate::verdict::agree;
-use crate::verdict::one_book;
-use crate::verdict::one_hash;
+use verdict::equal::same_digest;
+use verdict::machines::Drawn;
+use verdict::machines::agree;
+use verdict::machines::one_hash;
 
 // The anchor, and a line for each machine.
-pub(crate) fn draws(anchor: &[u8], a: Machine, b: Machine, c: Machine, d: Machine) {
+pub(crate) fn draws(anchor: &[u8], a: Drawn, b: Drawn, c: Drawn, d: Drawn) {
     say(
-        b"The draw: the anchor picks sixteen chunks from each machine's own book, and one hash stands for them\n",
+        b"The draw: the anchor picks sixteen chunks from each machine's own book, and one hash stands for them
+  anchor      ",
     );
-    say(b"  anchor      ");
     hex(anchor);
-    say(b"\n");
-    drawn(b"  machine A   ", a, a);
+    drawn(b"\n  machine A   ", a, a);
     drawn(b"  machine B   ", b, a);
     drawn(b"  machine C   ", c, a);
     drawn(b"  machine D   ", d, a);
@@ -23,11 +23,11 @@ pub(crate) fn draws(anchor: &[u8], a: Machine, b: Machine, c: Machine, d: Machin
 }
 
 // One machine's line, marked where its hash is not the first machine's.
-fn drawn(name: &[u8], m: Machine, first: Machine) {
+fn drawn(name: &[u8], m: Drawn, first: Drawn) {
     let hash = m.hash;
     say(name);
-    if m.drawn != 0 {
-        not_drawn(m.drawn);
+    if m.number != 0 {
+        not_drawn(m.number);
         return;
     }
     hex(&hash);
@@ -52,12 +52,29 @@ fn not_drawn(answer: u32) {
 
 // Whether the four books have one digest.
 pub(crate) fn on_books(a: Machine, b: Machine, c: Machine, d: Machine) {
-    say(b"What was kept and what was refused on the way depends on the order of the offers.\n");
-    if one_book(a, b) && one_book(a, c) && one_book(a, d) {
+    say(b"\nWhat was kept and what was refused on the way depends on the order of the offers.\n");
+    if one_book_all(a, b, c, d) {
         say(b"What the books came to does not: four orders, one digest.\n\n");
     } else {
         say(b"And the books came to more than one digest.\n\n");
     }
+}
+
+fn one_book_all(a: Machine, b: Machine, c: Machine, d: Machine) -> bool {
+    if !one_book(a, b) {
+        return false;
+    }
+    if !one_book(a, c) {
+        return false;
+    }
+    one_book(a, d)
+}
+
+// Whether two machines' books have one digest.
+fn one_book(a: Machine, b: Machine) -> bool {
+    let first = a.digest;
+    let second = b.digest;
+    same_digest(first, second)
 }
 
 // What became of a machine that missed offers; nothing of one that missed none.
@@ -68,10 +85,17 @@ fn on_missed(name: &[u8], m: Machine, first: Machine) {
     say(name);
     say(b" missed ");
     number(m.missed, 1);
-    if one_book(first, m) {
-        on_same_book(one_hash(first, m));
+    let one = m.drawn;
+    let other = first.drawn;
+    on_both(one_book(first, m), one_hash(other, one));
+}
+
+// Whether its book and its hash are the first machine's.
+fn on_both(same_book: bool, same_hash: bool) {
+    if same_book {
+        on_same_book(same_hash);
     } else {
-        on_other_book(one_hash(first, m));
+        on_other_book(same_hash);
     }
 }
 
@@ -93,11 +117,15 @@ fn on_other_book(same_hash: bool) {
     }
 }
 
-// Who missed offers, and whether the four agree: that is said of four equal hashes alone.
-pub(crate) fn on_all(a: Machine, b: Machine, c: Machine, d: Machine) {
+// Who missed offers.
+pub(crate) fn on_all_missed(a: Machine, b: Machine, c: Machine, d: Machine) {
     on_missed(b"Machine B", b, a);
     on_missed(b"Machine C", c, a);
     on_missed(b"Machine D", d, a);
+}
+
+// Whether the four agree: that is said of four equal hashes alone.
+pub(crate) fn on_all(a: Drawn, b: Drawn, c: Drawn, d: Drawn) {
     if agree(a, b, c, d) {
         say(b"THE FOUR MACHINES AGREE: all four drew one hash.\n");
     } else {

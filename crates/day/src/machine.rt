@@ -4,7 +4,6 @@ use crate::stock::OFFER;
 use crate::stock::heard_count;
 use crate::stock::heard_place;
 use crate::stock::missed;
-use crate::stock::one_more;
 use book::header::count;
 use book::header::depth;
 use draw::draw;
@@ -12,6 +11,10 @@ use keccak::keccak256;
 use opening::open::open;
 use reserve::offer::OfferAnswer;
 use reserve::offer::offer;
+use verdict::count::one_more;
+use verdict::machines::Drawn;
+ghost use Prim.Native.Nat.{_≤_};
+ghost use lib.ListN.{length};
 
 // How many records a book has room for.
 pub(crate) const CAPACITY: u64 = 24;
@@ -35,9 +38,7 @@ pub(crate) struct Machine {
     pub depth: u64,
     // Of the book's bytes.
     pub digest: [u8; 32],
-    // The draw's number, and the hash that was drawn.
-    pub drawn: u32,
-    pub hash: [u8; 32],
+    pub drawn: Drawn,
 }
 
 // A machine that heard these offers, at noon.
@@ -53,12 +54,6 @@ pub(crate) fn noon(
     let mut answers = [0u64; ANSWERS];
     open(&mut book, overlay, CAPACITY, 0);
     hear(&mut book, &mut answers, batches, offers, heard);
-    let mut shelf = [0u8; SHELF];
-    let filled = shelve(&book, chunks, &mut shelf);
-    let mut sample = [0u8; 1024];
-    let result = draw(&book, &shelf[0..filled], anchor, &mut sample);
-    let answer = result.answer;
-    let hash = result.commitment;
     Machine {
         heard: heard_count(heard) as u64,
         missed: missed(heard, offers),
@@ -66,7 +61,20 @@ pub(crate) fn noon(
         records: count(&book) as u64,
         depth: depth(&book) as u64,
         digest: keccak256(&book),
-        drawn: answer.number(),
+        drawn: drawn(&book, chunks, anchor),
+    }
+}
+
+// What the draw from a book comes to.
+fn drawn(book: &[u8], chunks: &[u8], anchor: &[u8]) -> Drawn {
+    let mut shelf = [0u8; SHELF];
+    let filled = shelve(book, chunks, &mut shelf);
+    let mut sample = [0u8; 1024];
+    let result = draw(book, &shelf[0..filled], anchor, &mut sample);
+    let answer = result.answer;
+    let hash = result.commitment;
+    Drawn {
+        number: answer.number(),
         hash,
     }
 }
@@ -85,16 +93,20 @@ fn offered(book: &mut [u8], batches: &[u8], offers: &[u8], place: usize) -> u32 
         return OfferAnswer::WrongLength.number();
     }
     let start = OFFER * place;
-    let rest = &offers[start..];
-    let address = &rest[0..32];
-    let stamp = arrived(&rest[32..145], rest[165]);
-    let account = &rest[145..165];
-    offer(book, batches, address, stamp, account).number()
+    offered_first(book, batches, &offers[start..])
+}
+
+// The number that the first of these offers gets.
+fn offered_first(book: &mut [u8], batches: &[u8], offers: &[u8]) -> u32
+    requires { ⌜ 166 ≤ length (now offers) ⌝ }
+{
+    let stamp = arrived(&offers[32..145], offers[165]);
+    offer(book, batches, &offers[0..32], stamp, &offers[145..165]).number()
 }
 
 // What is left of a stamp that lost some of its last bytes.
 fn arrived<'a>(stamp: &'a [u8], lost: u8) -> &'a [u8] {
-    let lost = wide(lost);
+    let lost = lost as usize;
     if lost > stamp.len() {
         return &stamp[0..0];
     }
@@ -107,9 +119,4 @@ fn counted(answers: &mut [u64], answer: usize) {
     if answer < answers.len() {
         answers[answer] = one_more(answers[answer]);
     }
-}
-
-// A byte as a length.
-fn wide(b: u8) -> usize {
-    b as usize
 }

@@ -1,5 +1,4 @@
 // The shelf of a machine: the chunks of its own book's records, in their order.
-use crate::verdict::equal;
 use book::header::count;
 use book::record::record_at;
 use moving::put;
@@ -68,7 +67,7 @@ fn has_address(chunks: &[u8], at: usize, address: &[u8]) -> bool
     if rest.len() < 32 {
         return false;
     }
-    equal(&rest[0..32], address)
+    check::same(&rest[0..32], address)
 }
 
 // Where the cell at `at` ends, or `at` itself where it is not whole.

@@ -1,5 +1,6 @@
 // The day's files: offers of 166 bytes, heard places of 2, and cells with their address before them.
 use octets::number::read16;
+use verdict::count::one_more;
 
 // Address, stamp and account, and how many of the stamp's last bytes were lost on the way.
 pub(crate) const OFFER: usize = 166;
@@ -52,9 +53,4 @@ fn was_heard(heard: &[u8], place: usize) -> bool {
         }
     }
     false
-}
-
-// A count that can go no higher stays.
-pub(crate) fn one_more(n: u64) -> u64 {
-    if n < u64::MAX { n + 1 } else { n }
 }

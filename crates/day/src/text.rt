@@ -11,22 +11,24 @@ pub(crate) fn number(n: u64, width: usize) {
     let mut digits = [0u8; 20];
     let k = io::decimal(n, &mut digits);
     if k < width {
-        start(b"            ", width - k);
+        part(b"            ", 0, width - k);
     }
     io::write_all(STDOUT_FILENO, &digits[..k]);
 }
 
-// The first n bytes of some words.
-fn start(words: &[u8], n: usize) {
-    if n <= words.len() {
-        say(&words[0..n]);
+// A part of some words, where it is one.
+pub(crate) fn part(words: &[u8], start: usize, end: usize) {
+    if end <= words.len() {
+        if start <= end {
+            say(&words[start..end]);
+        }
     }
 }
 
 // Bytes in hexadecimal.
 pub(crate) fn hex(bytes: &[u8]) {
     for i in 0..bytes.len() {
-        io::print_hex(STDOUT_FILENO, wide(bytes[i]), 2);
+        io::print_hex(STDOUT_FILENO, bytes[i] as u64, 2);
     }
 }
 
@@ -35,9 +37,4 @@ pub(crate) fn short(digest: &[u8]) {
     if 8 <= digest.len() {
         hex(&digest[0..8]);
     }
-}
-
-// A byte as a number to print.
-fn wide(b: u8) -> u64 {
-    b as u64
 }

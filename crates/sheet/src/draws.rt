@@ -21,18 +21,27 @@ pub(crate) fn run(tally: Tally) -> Tally {
     let mut book = [0u8; BOOK];
     opened(&mut book);
     keep(&mut book);
-    let mut shelf = [0u8; 176];
-    lay(&book, &mut shelf);
-    let fifteen = drawn(&book, &shelf[0..165]);
-    let tally = tally.number(b"Fifteen distinct chunks", 26, fifteen);
+    let tally = tally.number(b"Fifteen distinct chunks", 26, fifteen(&book));
     offered(&mut book, ROOMY, chunk_address(0), 15, 0);
-    lay(&book, &mut shelf);
-    let twice = drawn(&book, &shelf);
     tally.number(
         b"Fifteen distinct chunks, one of them in two slots",
         26,
-        twice,
+        sixteen(&book),
     )
+}
+
+// What a draw answers on a shelf of fifteen cells.
+fn fifteen(book: &[u8]) -> u64 {
+    let mut shelf = [0u8; 176];
+    lay(book, &mut shelf);
+    drawn(book, &shelf[0..165])
+}
+
+// The same on one of sixteen.
+fn sixteen(book: &[u8]) -> u64 {
+    let mut shelf = [0u8; 176];
+    lay(book, &mut shelf);
+    drawn(book, &shelf)
 }
 
 // Offers the fifteen chunks. The time is the chunk's own byte, by which the shelf finds it again.

@@ -34,18 +34,25 @@ fn padding(tally: Tally) -> Tally {
 
 // One message whole and in three parts, the second of which passes a block's end.
 fn parts(tally: Tally) -> Tally {
-    let mut joined = [1u8; 200];
-    let second = [2u8; 150];
-    put(&mut joined, 10, &second);
-    let third = [3u8; 40];
-    put(&mut joined, 160, &third);
     let first = [1u8; 10];
-    let sponge = Sponge::new().absorb(&first).absorb(&second);
+    let second = [2u8; 150];
+    let third = [3u8; 40];
+    let sponge = Sponge::new().absorb(&first).absorb(&second).absorb(&third);
     tally.digest(
         b"A message handed over as several parts hashes as the joined parts",
-        keccak256(&joined),
-        sponge.absorb(&third).finish(),
+        joined(),
+        sponge.finish(),
     )
+}
+
+// The digest of the three parts joined.
+fn joined() -> [u8; 32] {
+    let mut message = [1u8; 200];
+    let second = [2u8; 150];
+    put(&mut message, 10, &second);
+    let third = [3u8; 40];
+    put(&mut message, 160, &third);
+    keccak256(&message)
 }
 
 // The state's first 32 bytes, the low byte of a lane first.

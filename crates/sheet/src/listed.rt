@@ -23,17 +23,27 @@ pub(crate) fn run(tally: Tally) -> Tally {
     heading(b"The book of the listing, batch depth 17:\n");
     let mut book = [0u8; BOOK];
     opened(&mut book);
+    let tally = offers(tally, &mut book);
+    let tally = header(tally, &book);
+    let tally = fields(tally, &book);
+    records(tally, book)
+}
+
+fn offers(tally: Tally, book: &mut [u8]) -> Tally {
     let tally = tally.number(
         b"Address 80 00 .. 00, index 0, time 100",
         0,
-        offered(&mut book, BATCH_DEPTH, begun(0x80, 0x00), 0, 100),
+        offered(book, BATCH_DEPTH, begun(0x80, 0x00), 0, 100),
     );
-    let tally = tally.number(
+    tally.number(
         b"Address 12 34 00 .. 00, index 1, time 7",
         0,
-        offered(&mut book, BATCH_DEPTH, begun(0x12, 0x34), 1, 7),
-    );
-    let tally = header(tally, &book);
+        offered(book, BATCH_DEPTH, begun(0x12, 0x34), 1, 7),
+    )
+}
+
+// The lines of the two records.
+fn records(tally: Tally, book: [u8; BOOK]) -> Tally {
     heading(b"11111111 4660 1 7 12340000 3\n");
     let tally = record(tally, &book[48..193], 4660, 1, 7);
     let tally = address(tally, &book[96..128], 0x12340000, 3);
@@ -50,13 +60,17 @@ fn begun(first: u8, second: u8) -> [u8; 32] {
     address
 }
 
-// The listing's first line.
+// The listing's first line, and what stands before its numbers.
 fn header(tally: Tally, book: &[u8]) -> Tally {
     heading(b"RSV 1 good 0 0 2 16\n");
     let tally = tally.number(b"Well formed", 0, check_book(book).number() as u64);
     let tally = tally.bytes(b"Mark and a zero byte", 0x52535600, read32(book, 0));
     let tally = tally.number(b"Version", 1, read16(book, 3) as u64);
-    let tally = tally.number(b"State good", 0, overfull(book) as u64);
+    tally.number(b"State good", 0, overfull(book) as u64)
+}
+
+// The numbers behind it.
+fn fields(tally: Tally, book: &[u8]) -> Tally {
     let tally = tally.number(b"Starting depth", 0, starting_depth(book) as u64);
     let tally = tally.number(b"Depth", 0, depth(book) as u64);
     let tally = tally.number(b"Count", 2, count(book) as u64);

@@ -38,12 +38,23 @@ fn checked(index: u64, proof: &[u8]) -> u64 {
 }
 
 fn too_long(tally: Tally) -> Tally {
+    let tally = tally.number(b"4,097 bytes, address", 12, longer_address());
+    tally.number(b"4,097 bytes, proof made", 12, longer_made())
+}
+
+// What the address of a byte more answers.
+fn longer_address() -> u64 {
+    let span = SPAN;
+    let data = [0x5au8; LONGER];
+    let chunk = address(&span, &data);
+    let answer = chunk.answer;
+    answer.number() as u64
+}
+
+// What making its proof answers.
+fn longer_made() -> u64 {
     let span = SPAN;
     let data = [0x5au8; LONGER];
     let mut proof = [0u8; 264];
-    let made = make_proof(&span, &data, 0, &mut proof).number() as u64;
-    let chunk = address(&span, &data);
-    let answer = chunk.answer;
-    let tally = tally.number(b"4,097 bytes, address", 12, answer.number() as u64);
-    tally.number(b"4,097 bytes, proof made", 12, made)
+    make_proof(&span, &data, 0, &mut proof).number() as u64
 }

@@ -18,9 +18,7 @@ pub(crate) fn run(tally: Tally) -> Tally {
 
 fn nine_and_seven(tally: Tally) -> Tally {
     let mut book = [0u8; BOOK];
-    opened(&mut book);
-    fill(&mut book, 0x80, true, 9);
-    fill(&mut book, 0x40, true, 7);
+    two_sides(&mut book, 9, 7);
     let tally = tally.number(
         b"Sixteen slots with first byte 0x80 (nine) and 0x40 (seven), count",
         16,
@@ -28,28 +26,39 @@ fn nine_and_seven(tally: Tally) -> Tally {
     );
     let answer = offered(&mut book, ROOMY, address(0x40, true, 16), 16, 1);
     let tally = tally.number(b"A seventeenth at 0x40 gives", 0, answer);
-    let tally = tally.number(b"A seventeenth at 0x40, depth", 1, depth(&book) as u64);
-    tally.number(b"A seventeenth at 0x40, count", 8, count(&book) as u64)
+    risen(
+        tally,
+        b"A seventeenth at 0x40, depth",
+        b"A seventeenth at 0x40, count",
+        &book,
+    )
 }
 
 fn eight_of_each(tally: Tally) -> Tally {
     let mut book = [0u8; BOOK];
-    opened(&mut book);
-    fill(&mut book, 0x80, true, 8);
-    fill(&mut book, 0x40, true, 8);
+    two_sides(&mut book, 8, 8);
     let tally = tally.number(b"With eight of each, count", 16, count(&book) as u64);
     let answer = offered(&mut book, ROOMY, address(0x80, true, 16), 16, 1);
     let tally = tally.number(b"With eight of each and a seventeenth at 0x80", 2, answer);
-    let tally = tally.number(
+    risen(
+        tally,
         b"With eight of each and a seventeenth at 0x80, depth",
-        1,
-        depth(&book) as u64,
-    );
-    tally.number(
         b"With eight of each and a seventeenth at 0x80, count",
-        8,
-        count(&book) as u64,
+        &book,
     )
+}
+
+// Opens a book, and offers it so many slots with first byte 0x80, and so many with 0x40.
+fn two_sides(book: &mut [u8], first: u8, second: u8) {
+    opened(book);
+    fill(book, 0x80, true, first);
+    fill(book, 0x40, true, second);
+}
+
+// Depth 1 and count 8.
+fn risen(tally: Tally, on_depth: &[u8], on_count: &[u8], book: &[u8]) -> Tally {
+    let tally = tally.number(on_depth, 1, depth(book) as u64);
+    tally.number(on_count, 8, count(book) as u64)
 }
 
 fn one_bucket(tally: Tally) -> Tally {

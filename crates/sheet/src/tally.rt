@@ -1,16 +1,13 @@
 // What the examples came to. A line is an example in document 01's words, what was expected, what came, and the verdict.
 use libc::STDOUT_FILENO;
-ghost use mathlib.Core.Path.{_≡_};
+use verdict::count::one_more;
+use verdict::equal::Verdict;
+use verdict::equal::judged;
+use verdict::equal::judged_digest;
 
 pub(crate) struct Tally {
     equal: u64,
     differ: u64,
-}
-
-// What is said of an example.
-pub(crate) enum Verdict {
-    Equal,
-    Differs,
 }
 
 impl Tally {
@@ -76,33 +73,6 @@ impl Tally {
         io::print_decimal(STDOUT_FILENO, self.differ);
         write(b" differ\n");
     }
-}
-
-// Equal is said only of equal numbers.
-fn judged(expected: u64, came: u64) -> Verdict
-    ensures { λ r. ⌜ (r ≡ Verdict.Equal → expected ≡ came) ⌝ }
-{
-    if expected == came {
-        Verdict::Equal
-    } else {
-        Verdict::Differs
-    }
-}
-
-// Equal is said only of equal digests.
-fn judged_digest(expected: [u8; 32], came: [u8; 32]) -> Verdict
-    ensures { λ r. ⌜ (r ≡ Verdict.Equal → expected ≡ came) ⌝ }
-{
-    if check::same(&expected, &came) {
-        Verdict::Equal
-    } else {
-        Verdict::Differs
-    }
-}
-
-// A count that can go no higher stays.
-fn one_more(n: u64) -> u64 {
-    if n < u64::MAX { n + 1 } else { n }
 }
 
 // What the lines after it are about.

@@ -10,24 +10,23 @@ use field::PART_LIMIT;
 use libc::STDOUT_FILENO;
 use run::Run;
 
-// Names the file, and lends the space for one part of a message.
+// Lends the space for one part of a message.
 fn main() {
     let mut space = [0u8; PART_LIMIT];
-    run_file(b"keccak256.txt", &mut space);
+    run_file(&mut space);
     swarm::report();
 }
 
-// Runs the vectors of one file.
-fn run_file(path: &[u8], space: &mut [u8]) {
+// Runs the vectors of the file.
+fn run_file(space: &mut [u8]) {
+    let path = b"keccak256.txt";
     let fd = os::open_read(path);
     if fd < 0 {
         os::fail(path);
         io::write_all(
             STDOUT_FILENO,
-            b"No vector was run, since this file cannot be opened: ",
+            b"No vector was run, since this file cannot be opened: keccak256.txt\n",
         );
-        io::write_all(STDOUT_FILENO, path);
-        io::write_all(STDOUT_FILENO, b"\n");
         return;
     }
     Run::over(fd, space).report(path);

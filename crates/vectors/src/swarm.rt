@@ -1,5 +1,6 @@
 // The chunk address that the Swarm client bee publishes in its own tests.
 use libc::STDOUT_FILENO;
+use verdict::equal::same_digest;
 
 const SPAN: [u8; 8] = [15, 0, 0, 0, 0, 0, 0, 0];
 
@@ -44,7 +45,7 @@ fn agrees() -> bool {
     let expected = ADDRESS;
     let found = chunk::address(&span, b"greaterthanspan");
     let digest = found.digest;
-    check::same(&digest, &expected)
+    same_digest(digest, expected)
 }
 
 // One line, as for the hashes.

@@ -1,6 +1,7 @@
 // What the lines of a file came to.
 use crate::vector::Verdict;
 use libc::STDOUT_FILENO;
+use verdict::count::one_more;
 
 // How many lines of a kind are named before the rest are only counted.
 const FEW: u64 = 10;
@@ -63,11 +64,6 @@ impl Tally {
         say(self.several, b" lines in several parts\n");
         say(self.not_understood, b" lines not understood\n");
     }
-}
-
-// A count that can go no higher stays.
-pub(crate) fn one_more(n: u64) -> u64 {
-    if n < u64::MAX { n + 1 } else { n }
 }
 
 // Names a line, where few of its kind came before it.

@@ -1,9 +1,9 @@
 // A Keccak-256 vector: the digest that a line names first, and the message that the parts after it make.
-use crate::tally::one_more;
 use keccak::Sponge;
 use keccak::keccak256;
+use verdict::count::one_more;
+use verdict::equal::same_digest;
 ghost use mathlib.Core.Path.{_≡_};
-ghost use mathlib.Core.Bool.{true};
 ghost use Prim.Native.Nat.{ℕ};
 ghost use lib.ListN.{length};
 ghost use Rattle.keccak.specs.Sponge.{usable, finished};
@@ -64,7 +64,7 @@ impl Vector {
         let digest = self.digest;
         let sponge = self.sponge;
         let absorbed = sponge.absorb(part);
-        self.agrees = self.fields > 1 || equal(keccak256(part), digest);
+        self.agrees = self.fields > 1 || same_digest(keccak256(part), digest);
         self.sponge = absorbed;
         self.fields = one_more(self.fields);
         self
@@ -86,7 +86,7 @@ impl Vector {
         if !self.agrees {
             return Verdict::Differs(parts);
         }
-        if equal(sponge.finish(), digest) {
+        if same_digest(sponge.finish(), digest) {
             Verdict::Equal(parts)
         } else {
             Verdict::Differs(parts)
@@ -103,11 +103,4 @@ fn array(bytes: &[u8]) -> [u8; 32]
         copy[i] = bytes[i];
     }
     copy
-}
-
-// Whether two digests are one.
-fn equal(a: [u8; 32], b: [u8; 32]) -> bool
-    ensures { λ r. ⌜ (r ≡ true → a ≡ b) ⌝ }
-{
-    check::same(&a, &b)
 }

@@ -3,6 +3,7 @@ use mathlib.Core.Path.{_≡_, sym, _∙_}
 use Prim.Native.Nat.{ℕ}
 use native.Mathlib.Omega.{arith}
 use borrow.Author.Needs.{needs}
+use Rattle.verdict.proofs.Told.{same-told}
 use Rattle.vectors.specs.declared.vector.Verdict.the-variants.{NotUnderstood, Equal, Differs}
 use Rattle.vectors.proofs.vector.Vector.verdict.Statement.{statement}
 use Rattle.vectors.proofs.vector.Vector.verdict.Tie as tie
@@ -28,11 +29,13 @@ returns-3 c parts e = absurd (differs-apart e)
 finish-requires : tie.Need-finish-requires
 finish-requires c κs = search needs
 
-equal-requires : tie.Need-equal-requires
-equal-requires c κs = search needs
+same-digest-requires : tie.Need-same-digest-requires
+same-digest-requires c κs = search needs
 
 returns-4 : tie.Need-returns-4
-returns-4 c parts e = sym (c .before .before .finish .ensures) ∙ c .before .equal .ensures (c .if4 .taken)
+returns-4 c parts e =
+    sym (c .before .before .finish .ensures)
+    ∙ same-told _ _ .0 (sym (c .before .same-digest .ensures) ∙ c .if4 .taken)
 
 returns-5 : tie.Need-returns-5
 returns-5 c parts e = absurd (differs-apart e)
@@ -40,4 +43,4 @@ returns-5 c parts e = absurd (differs-apart e)
 pub verdict-spec : {M : Type 1} → statement M
 verdict-spec =
     tie.close
-    (tie.spec returns returns-2 sub-parts returns-3 finish-requires equal-requires returns-4 returns-5)
+    (tie.spec returns returns-2 sub-parts returns-3 finish-requires same-digest-requires returns-4 returns-5)

@@ -1,2 +1,0 @@
--- That the verdicts are different ones.
-pub mod Apart

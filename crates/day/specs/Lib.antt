@@ -1,2 +1,0 @@
--- What the program calls agreeing.
-pub mod Agree

@@ -1,2 +1,0 @@
--- That the two verdicts are two.
-pub mod Apart
