@@ -10,7 +10,6 @@ use Rattle.octets.specs.Number.{bigAt, bytesOf}
 use Rattle.moving.specs.Moving.{over, placed}
 use Rattle.octets.specs.Pieces.{pieces}
 use Rattle.moving.proofs.Edits.{placed-fits, length-placed}
-use Rattle.octets.proofs.Pieces.{length-pieces}
 use Rattle.settling.specs.Book.{inside}
 use Rattle.settling.proofs.Cases.{Limit, within, beyond, limit}
 use Rattle.settling.proofs.Inside.{inside-less, each-inside}

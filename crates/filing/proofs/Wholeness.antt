@@ -8,7 +8,6 @@ use lib.Dec.{leb}
 use lib.ListN.{length}
 use borrow.Author.Tests.{le-leb, lt-leb, leb-true}
 use Rattle.octets.specs.Number.{bigAt}
-use Rattle.octets.proofs.Numbers.{bigAt-not}
 use Rattle.settling.proofs.Cases.{Limit, within, beyond, limit}
 use Rattle.book.specs.Layout.{countIn}
 use Rattle.book.proofs.Fields.{count-there}

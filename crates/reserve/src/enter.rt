@@ -13,7 +13,6 @@ use filing::near::near;
 use moving::put;
 use records::rank::Choice;
 use records::rank::choose;
-ghost use mathlib.Core.Path.{_≡_};
 ghost use Prim.Native.Nat.{_≤_};
 ghost use Rattle.book.specs.Layout.{capacityIn, countIn};
 ghost use Rattle.reserve.specs.Answer.{offerNumber};
@@ -27,20 +26,19 @@ pub(crate) fn enter(book: &mut [u8], given: &[u8]) -> OfferAnswer
     if near(book, given) < depth(book) as usize {
         return OfferAnswer::Outside;
     }
-    let records = count(book);
-    let at = place(book, records, &given[0..40]);
-    file(book, records, at, given)
+    let at = place(book, given);
+    file(book, at, given)
 }
 
 // At its slot's place a record contests the slot, where the higher rank stays, or is added.
-fn file(book: &mut [u8], count: usize, at: usize, given: &[u8]) -> OfferAnswer
-    requires { ⌜ AwaitsAt (now book) (now given) at × (count ≡ countIn (now book)) ⌝ }
+fn file(book: &mut [u8], at: usize, given: &[u8]) -> OfferAnswer
+    requires { ⌜ AwaitsAt (now book) (now given) at ⌝ }
     ensures { λ r. ⌜ Ends (now (book .entry)) (now (given .entry)) (offerNumber r) (now (book .exit)) ⌝ }
 {
     match choose(given, record_at(book, at)) {
         Choice::First => replace(book, at, given),
         Choice::Second => OfferAnswer::Outranked,
-        Choice::Neither => add(book, count, at, given),
+        Choice::Neither => add(book, at, given),
     }
 }
 
@@ -60,12 +58,13 @@ fn replace(book: &mut [u8], at: usize, given: &[u8]) -> OfferAnswer
 }
 
 // For an empty slot a record is added, and if the count would pass capacity the depth rises.
-fn add(book: &mut [u8], count: usize, at: usize, given: &[u8]) -> OfferAnswer
-    requires { ⌜ Free (now book) (now given) at × (count ≡ countIn (now book)) ⌝ }
+fn add(book: &mut [u8], at: usize, given: &[u8]) -> OfferAnswer
+    requires { ⌜ Free (now book) (now given) at ⌝ }
     ensures { λ r. ⌜ Ends (now (book .entry)) (now (given .entry)) (offerNumber r) (now (book .exit)) ⌝ }
 {
-    if count < capacity(book) {
-        add_record(book, count, at, given);
+    let records = count(book);
+    if records < capacity(book) {
+        add_record(book, records, at, given);
         return OfferAnswer::Kept;
     }
     rise(book, at, given)

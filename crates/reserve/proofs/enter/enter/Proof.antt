@@ -1,13 +1,8 @@
 -- Inside the depth, the place is the slot's.
-use mathlib.Core.Path.{_≡_, ap, _∙_, subst}
+use mathlib.Core.Path.{_≡_, _∙_}
 use native.Mathlib.Omega.{arith}
-use lib.ListN.{take}
-use lib.Seq.{take-take, length-take-le}
-use Rattle.octets.specs.Number.{big}
 use Rattle.records.specs.Record.{slot, nearOf}
 use Rattle.book.specs.Layout.{depthIn, overlayIn}
-use Rattle.reserve.specs.Place.{PlaceIn}
-use Rattle.book.proofs.Fields
 use Rattle.reserve.proofs.Enters
 use borrow.Author.Needs.{needs}
 use Rattle.reserve.proofs.enter.enter.Statement.{statement}
@@ -23,16 +18,12 @@ returns c =
     Enters.lies-outside (k .args .book .now) (k .args .given .now) (k .pre) (omega (arith, near, depth, c .if1 .taken))
 
 place-requires : tie.Need-place-requires
-place-requires c κs =
-    let k = c .before .before .before .before .before .before .before .before .before .before .before in
-    let s = k .args .book .now in
-    (k .pre .formed, c .before .before .count .ensures ∙ Fields.count-there s (omega (arith, k .pre .formed .size)), length-take-le 40 (k .args .given .now) (omega (arith, k .pre .fits .size)))
+place-requires c κs = let k = c .before .before .before .before .before .before .before .before in (k .pre .formed, k .pre .fits .size)
 
 file-requires : tie.Need-file-requires
 file-requires c κs =
     let p = c .before in
-    let n = p .before .before .before in
-    let e = n .before .before in
+    let e = p .before .before in
     let d = e .before in
     let m = d .before .before in
     let k = m .before .before .before .before in
@@ -40,8 +31,7 @@ file-requires c κs =
     let r = k .args .given .now in
     let near : m .near .result ≡ nearOf (overlayIn s) (slot r) = m .near .ensures ∙ Enters.near-there s r (k .pre) in
     let depth : d .depth .result ≡ depthIn s = d .depth .ensures in
-    let key : slot (take 40 r) ≡ slot r = ap big (take-take 40 40 r (omega arith)) in
-    (record { awaits = k .pre; inside = omega (arith, near, depth, e .if1 .left); place = subst (λ x. PlaceIn s x (p .place .result)) key (p .place .ensures) }, n .count .ensures ∙ Fields.count-there s (omega (arith, k .pre .formed .size)))
+    record { awaits = k .pre; inside = omega (arith, near, depth, e .if1 .left); place = p .place .ensures }
 
 returns-2 : tie.Need-returns-2
 returns-2 c = c .before .before .file .ensures
@@ -55,10 +45,6 @@ enter-spec =
     (λ c. search needs)
     (λ c. search needs)
     returns
-    (λ c κs. search needs)
-    (λ c. search needs)
-    (λ c. search needs)
-    (λ c. search needs)
     place-requires
     file-requires
     (λ c. search needs)

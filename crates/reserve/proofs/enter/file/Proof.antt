@@ -15,13 +15,13 @@ chosen t e = ap (choice (t .before .before .before .before .before .args .given 
 replace-requires : tie.Need-replace-requires
 replace-requires c κs =
     let t = c .before .before .before in
-    record { at = t .before .before .before .before .before .pre .0; first = chosen t (c .before .enum-told .given .1) }
+    record { at = t .before .before .before .before .before .pre; first = chosen t (c .before .enum-told .given .1) }
 
 add-requires : tie.Need-add-requires
 add-requires c κs =
     let t = c .before .before .before in
     let k = t .before .before .before .before .before in
-    (Enters.free (k .args .book .now) (k .args .given .now) (k .args .at) (k .pre .0) (chosen t (c .before .enum-told3 .given .1)), k .pre .1)
+    Enters.free (k .args .book .now) (k .args .given .now) (k .args .at) (k .pre) (chosen t (c .before .enum-told3 .given .1))
 
 returns : tie.Need-returns
 returns c = c .before .before .replace .ensures
@@ -30,7 +30,7 @@ returns-2 : tie.Need-returns-2
 returns-2 c =
     let t = c .before .before in
     let k = t .before .before .before .before .before in
-    Enters.outranked (k .args .book .now) (k .args .given .now) (k .args .at) (k .pre .0) (chosen t (c .enum-told2 .given .1))
+    Enters.outranked (k .args .book .now) (k .args .given .now) (k .args .at) (k .pre) (chosen t (c .enum-told2 .given .1))
 
 returns-3 : tie.Need-returns-3
 returns-3 c = c .before .before .add .ensures
