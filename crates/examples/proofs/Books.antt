@@ -5,7 +5,7 @@ use Rattle.octets.specs.Order.{byteOrder}
 use Rattle.octets.specs.Pieces.{pieces}
 use Rattle.nearness.specs.Bits.{bits, bitsOf, leadingEqual, sharedBits}
 use Rattle.postage.specs.Stamp.{slotsOf}
-use Rattle.postage.specs.Batch.{records, fit, below, ordered, wellListed, find}
+use Rattle.batches.specs.Batch.{records, fit, below, ordered, wellListed, find}
 use Rattle.postage.specs.Rules.{inBucket, inSlots, isOwner, rules, checked}
 use Rattle.settling.specs.Rank.{higher}
 use Rattle.settling.specs.Book.{enter, inside, settle, offer}

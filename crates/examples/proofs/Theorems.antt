@@ -13,7 +13,7 @@ use Rattle.nearness.specs.declared.near.Near.the-variants.{Bits}
 use Rattle.nearness.specs.Bits.{bits, bitsOf, leadingEqual, sharedBits}
 use Rattle.nearness.specs.Near.{nearnessOf}
 use Rattle.nearness.proofs.Shared.{length-bitsOf}
-use Rattle.postage.specs.Batch.{records, fit, below, ordered, wellListed, find}
+use Rattle.batches.specs.Batch.{records, fit, below, ordered, wellListed, find}
 use Rattle.postage.specs.Stamp.{bucketOf, slotsOf}
 use Rattle.postage.specs.Rules.{stampNumber, inBucket, inSlots, isOwner, rules, checked}
 use Rattle.merkle.specs.Segment.{segmentOf}

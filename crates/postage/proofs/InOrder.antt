@@ -12,12 +12,12 @@ use Rattle.octets.specs.Order.{byteOrder, isSame}
 use Rattle.octets.proofs.Ordered.{is-same, order-self, same-equal}
 use Rattle.postage.specs.declared.rules.StampAnswer.{StampAnswer}
 use Rattle.postage.specs.declared.rules.StampAnswer.the-variants.{Passes, BadList, WrongLength, NoBatch, OtherBucket, IndexPast, NotOwner}
-use Rattle.postage.specs.Batch.{Listed, batchAt, records, wellListed, find, ownerOf, depthOf}
+use Rattle.batches.specs.Batch.{Listed, batchAt, records, wellListed, find, ownerOf, depthOf}
 use Rattle.postage.specs.Stamp.{stampLength, batchIn, bucketIn, indexIn, bucketOf, slotsOf}
 use Rattle.postage.specs.Rules.{rule, inBucket, inSlots, isOwner, rules, checked}
 use Rattle.postage.specs.InOrder.{Lengths, Kept, Given}
-use Rattle.postage.proofs.Records.{length-batchAt}
-use Rattle.postage.proofs.Listed.{both, well-listed-sound, well-listed-complete}
+use Rattle.batches.proofs.Records.{length-batchAt}
+use Rattle.batches.proofs.Listed.{both, well-listed-sound, well-listed-complete}
 use Rattle.postage.proofs.Search.{find-cases}
 
 -- ---- any tests of what the rules ask

@@ -1,6 +1,4 @@
 -- Laws that belong to no one function.
-pub mod Records
-pub mod Listed
 pub mod Search
 pub mod Ruled
 pub mod InOrder

@@ -10,8 +10,8 @@ use lib.ListN.{length, getD}
 use Rattle.octets.specs.declared.order.Order.the-variants.{Less, More}
 use Rattle.octets.specs.Order.{byteOrder, turned, isSame}
 use Rattle.octets.proofs.Ordered.{is-same, compared, less-not-same, less-trans, order-self, same-equal, order-turned}
-use Rattle.postage.specs.Batch.{idOf, count, batchAt, Whole, WellListed, Listed, records, find}
-use Rattle.postage.proofs.Records.{length-records, records-at, length-batchAt}
+use Rattle.batches.specs.Batch.{idOf, count, batchAt, Whole, WellListed, Listed, records, find}
+use Rattle.batches.proofs.Records.{length-records, records-at, length-batchAt}
 
 -- ---- nothing, or a batch with the id
 

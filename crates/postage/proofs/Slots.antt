@@ -13,7 +13,7 @@ use Rattle.octets.proofs.Numbers.{big-injective, bigAt-fits}
 use Rattle.octets.proofs.Parts.{part-of-take}
 use Rattle.nearness.specs.Bits.{bits, bitsOf}
 use Rattle.nearness.proofs.Words.{bits-big}
-use Rattle.postage.specs.Batch.{Fit, depthOf}
+use Rattle.batches.specs.Batch.{Fit, depthOf}
 use Rattle.postage.specs.Stamp.{bucketIn, slotIn, bucketOf, slotsOf}
 
 -- the bucket stands in the slot

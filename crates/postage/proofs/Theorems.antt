@@ -1,6 +1,5 @@
 -- What a reader looks for in postage, each readable alone.
 use mathlib.Core.Path.{_≡_, refl, sym, ap, _∙_}
-use mathlib.Core.Bool.{true}
 use mathlib.Core.Logic.{_⊎_, inl, inr, _↔_}
 use mathlib.Core.List.{List, []}
 use Prim.Native.Nat.{ℕ, _^_, _≤_, _<_, min}
@@ -11,21 +10,16 @@ use Rattle.nearness.specs.Bits.{bits, bitsOf, sharedBits}
 use Rattle.nearness.proofs.Shared.{same-start, together}
 use Rattle.postage.specs.declared.rules.StampAnswer.{StampAnswer}
 use Rattle.postage.specs.declared.rules.StampAnswer.the-variants.{Passes}
-use Rattle.postage.specs.Batch.{idOf, count, batchAt, WellListed, Listed, records, wellListed, find}
+use Rattle.batches.specs.Batch.{idOf, count, batchAt, WellListed, Listed, records, find}
 use Rattle.postage.specs.Stamp.{batchIn, indexIn, slotIn, bucketOf, Bucketed}
 use Rattle.postage.specs.Rules.{checked}
 use Rattle.postage.specs.InOrder.{Kept, Given}
-use Rattle.postage.proofs.Records.{length-batchAt}
-use Rattle.postage.proofs.Listed.{well-listed-sound, well-listed-complete}
+use Rattle.batches.proofs.Records.{length-batchAt}
 use Rattle.postage.proofs.Search.{find-cases, find-absent, find-held}
 use Rattle.postage.proofs.InOrder.{in-order}
 use Rattle.postage.proofs.Slots.{slot-bucket, bucket-start, bucket-bits, most-slots}
 
 -- ---- the batch list
-
--- the test that the code makes is the sentence: whole records, each depth 17 to 40, each earlier id below each later one
-pub test-is-sentence : (list : List ℕ) → (wellListed list ≡ true) ↔ WellListed list
-test-is-sentence list = (well-listed-sound list, well-listed-complete list)
 
 -- in a well-formed list each batch is found under its id, the last one too
 pub each-batch-is-found : (list : List ℕ) → WellListed list → (i : ℕ) → i < count list → find (idOf (batchAt list i)) (records list) ≡ batchAt list i

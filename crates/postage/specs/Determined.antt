@@ -1,14 +1,9 @@
 -- Each contract determines its function: two results that it allows are equal.
 use mathlib.Core.Path.{_≡_, sym, _∙_}
-use mathlib.Core.Bool.{Bool}
 use mathlib.Core.List.{List}
 use Prim.Native.Nat.{ℕ}
 use Rattle.postage.specs.declared.rules.StampAnswer.{StampAnswer}
-use Rattle.postage.specs.Batch.{wellListed}
 use Rattle.postage.specs.Rules.{stampNumber, checked}
-
-pub check-batches-determined : (batches : List ℕ) (r r′ : Bool) → r ≡ wellListed batches → r′ ≡ wellListed batches → r ≡ r′
-check-batches-determined batches r r′ p q = p ∙ sym q
 
 pub check-stamp-determined : (batches address stamp account : List ℕ) (r r′ : StampAnswer) → r ≡ checked batches address stamp account → r′ ≡ checked batches address stamp account → r ≡ r′
 check-stamp-determined batches address stamp account r r′ p q = p ∙ sym q

@@ -5,7 +5,7 @@ use Prim.Native.Nat.{ℕ, _<_}
 use lib.ListN.{length}
 use Rattle.postage.specs.declared.rules.StampAnswer.{StampAnswer}
 use Rattle.postage.specs.declared.rules.StampAnswer.the-variants.{Passes, BadList, WrongLength, NoBatch, OtherBucket, IndexPast, NotOwner}
-use Rattle.postage.specs.Batch.{WellListed, Listed, records, find, ownerOf, depthOf}
+use Rattle.batches.specs.Batch.{WellListed, Listed, records, find, ownerOf, depthOf}
 use Rattle.postage.specs.Stamp.{stampLength, batchIn, bucketIn, indexIn, bucketOf, slotsOf}
 
 pub record Lengths (address stamp account : List ℕ) : Type 0 where

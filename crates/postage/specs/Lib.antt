@@ -1,5 +1,4 @@
 -- What the contracts of this crate and of those above it cite, and the statements that a reader looks for.
-pub mod Batch
 pub mod Stamp
 pub mod Rules
 pub mod InOrder

@@ -7,7 +7,7 @@ use lib.ListN.{length}
 use Rattle.octets.specs.Order.{byteOrder, isSame}
 use Rattle.postage.specs.declared.rules.StampAnswer.{StampAnswer}
 use Rattle.postage.specs.declared.rules.StampAnswer.the-variants.{Passes, BadList, WrongLength, NoBatch, OtherBucket, IndexPast, NotOwner}
-use Rattle.postage.specs.Batch.{records, wellListed, find, ownerOf, depthOf}
+use Rattle.batches.specs.Batch.{records, wellListed, find, ownerOf, depthOf}
 use Rattle.postage.specs.Stamp.{stampLength, batchIn, bucketIn, indexIn, bucketOf, slotsOf}
 
 -- document 01's number for each answer

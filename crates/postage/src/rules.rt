@@ -1,9 +1,9 @@
 // The rules that a stamp must pass, in their order.
-use crate::batches::DEPTH;
-use crate::batches::ID;
-use crate::batches::find;
-use crate::batches::record_from;
-use crate::batches::stands;
+use crate::lookup::find;
+use crate::lookup::record_from;
+use batches::DEPTH;
+use batches::ID;
+use batches::check_batches;
 use octets::number::read16;
 use octets::number::read32;
 use octets::order::Order;
@@ -11,8 +11,8 @@ use octets::order::compare;
 ghost use mathlib.Core.Path.{_≡_};
 ghost use mathlib.Core.Bool.{true};
 ghost use Prim.Native.Nat.{_≤_};
-ghost use lib.ListN.{length};
-ghost use Rattle.postage.specs.Batch.{Whole, recordFrom, records, wellListed, find};
+ghost use lib.ListN.{length, take};
+ghost use Rattle.batches.specs.Batch.{Whole, recordFrom, records, wellListed, find};
 ghost use Rattle.postage.specs.Stamp.{batchIn};
 ghost use Rattle.postage.specs.Rules.{stampNumber, inBucket, inSlots, isOwner, rules, checked};
 
@@ -62,6 +62,14 @@ pub fn check_stamp(batches: &[u8], address: &[u8], stamp: &[u8], account: &[u8])
         return StampAnswer::WrongLength;
     }
     judge(batches, at, address, stamp, account)
+}
+
+// Whether the list is well formed as far as `end`.
+fn stands(batches: &[u8], end: usize) -> bool
+    requires { ⌜ end ≤ length (now batches) ⌝ }
+    ensures { λ r. ⌜ r ≡ wellListed (take end (now (batches .entry))) ⌝ }
+{
+    check_batches(&batches[0..end])
 }
 
 // The batch id in a stamp; of a stamp too short for one, what there is.

@@ -4,10 +4,10 @@ use mathlib.Core.List.{List}
 use Prim.Native.Nat.{ℕ}
 use lib.ListN.{length}
 use borrow.Author.Tests.{eq-eqb, ne-eqb, not-true, not-false}
-use Rattle.postage.specs.Batch.{records, find}
+use Rattle.batches.specs.Batch.{records, find}
 use Rattle.postage.specs.Stamp.{stampLength}
 use Rattle.postage.specs.Rules.{checked}
-use Rattle.postage.proofs.Listed.{to-end}
+use Rattle.postage.proofs.Ruled.{to-end}
 use borrow.Author.Needs.{needs}
 use Rattle.postage.proofs.rules.check_stamp.Statement.{statement}
 use Rattle.postage.proofs.rules.check_stamp.Tie as tie

@@ -7,9 +7,9 @@ use native.Mathlib.Omega.{arith}
 use lib.ListN.{length, getD, take, drop, length-drop}
 use lib.Seq.{take-all, take-take, drop-length, getD-take, getD-drop}
 use Rattle.octets.specs.Pieces.{pieces}
-use Rattle.octets.proofs.Parts.{part-length, part-of-take}
+use Rattle.octets.proofs.Parts.{part-length}
 use Rattle.octets.proofs.Pieces.{pieces-none, pieces-more, length-pieces, piece-at}
-use Rattle.postage.specs.Batch.{recordLength, recordFrom, idOf, depthOf, count, batchAt, records}
+use Rattle.batches.specs.Batch.{recordLength, recordFrom, idOf, depthOf, count, batchAt, records}
 
 pub records-short : (s : List ℕ) → length s < recordLength → records s ≡ []
 unfolding records
@@ -41,12 +41,6 @@ module _ (s : List ℕ) (at : ℕ) where
 
   pub id-part : take (at + 32 - at) (drop at s) ≡ idOf (recordFrom s at)
   id-part = rw (add-sub-cancel-left at 32, take-take 32 recordLength (drop at s) (omega arith))
-
-  -- a record that ends before `end` stands in the bytes before it
-  pub record-front : (end : ℕ) → at + recordLength ≤ end → recordFrom (take end s) at ≡ recordFrom s at
-  record-front end h =
-      let e : end ≡ at + (end - at) = omega arith in
-      ap (λ (m : ℕ). recordFrom (take m s) at) e ∙ ap (take recordLength) (part-of-take at (end - at) s) ∙ take-take recordLength (end - at) (drop at s) (omega arith)
 
   -- less than a record is left
   pub rest-part : length s - at < recordLength → take (length s - at) (drop at s) ≡ recordFrom s at

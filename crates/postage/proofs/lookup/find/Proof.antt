@@ -9,12 +9,12 @@ use lib.ListN.{take, drop}
 use Rattle.octets.specs.declared.order.Order.{Order}
 use Rattle.octets.specs.Order.{byteOrder}
 use Rattle.octets.proofs.Ordered.{same-equal}
-use Rattle.postage.specs.Batch.{recordLength, idOf, count, batchAt, wellListed}
-use Rattle.postage.proofs.Records.{id-part, batch-from, no-record}
-use Rattle.postage.proofs.Listed.{well-listed-sound}
+use Rattle.batches.specs.Batch.{recordLength, idOf, count, batchAt, wellListed}
+use Rattle.batches.proofs.Records.{id-part, batch-from, no-record}
+use Rattle.batches.proofs.Listed.{well-listed-sound}
 use Rattle.postage.proofs.Search
-use Rattle.postage.proofs.batches.find.Statement.{statement}
-use Rattle.postage.proofs.batches.find.Tie as tie
+use Rattle.postage.proofs.lookup.find.Statement.{statement}
+use Rattle.postage.proofs.lookup.find.Tie as tie
 
 abbrev Inv-loop : tie.InvT-loop
 Inv-loop batches id low₀ high₀ low high = (low ≤ high) × (high ≤ count batches) × (wellListed batches ≡ true → Search.Between batches id low high)

@@ -2,11 +2,11 @@
 use Prim.Native.Nat.{_+_}
 use borrow.Author.Tests.{le-leb, lt-leb}
 use lib.ListN.{getD}
-use Rattle.postage.specs.Batch.{fit}
-use Rattle.postage.proofs.Records.{depth-part}
+use Rattle.batches.specs.Batch.{fit}
+use Rattle.batches.proofs.Records.{depth-part}
 use borrow.Author.Needs.{needs}
-use Rattle.postage.proofs.batches.fit.Statement.{statement}
-use Rattle.postage.proofs.batches.fit.Tie as tie
+use Rattle.batches.proofs.check.fit.Statement.{statement}
+use Rattle.batches.proofs.check.fit.Tie as tie
 
 returns : tie.Need-returns
 unfolding fit

@@ -5,14 +5,14 @@ use mathlib.Core.List.{List, [], _∷_}
 use Prim.Native.Nat.{ℕ, zero, suc, _+_, _%_, _≤_, _<_}
 use native.Mathlib.Omega.{arith}
 use lib.Dec.{eqb, leb}
-use lib.ListN.{length, getD, take, drop, length-drop}
-use lib.Seq.{drop-drop, length-take-le, take-length}
+use lib.ListN.{length, getD, drop, length-drop}
+use lib.Seq.{drop-drop}
 use borrow.Author.Tests.{le-leb, leb-true, eq-eqb, eqb-true}
 use Rattle.octets.specs.declared.order.Order.the-variants.{Less}
 use Rattle.octets.specs.Order.{byteOrder, isLess}
 use Rattle.octets.proofs.Ordered.{is-less, less-trans}
-use Rattle.postage.specs.Batch.{recordLength, recordFrom, idOf, depthOf, Fit, WellListed, records, fit, below, ordered, wellListed}
-use Rattle.postage.proofs.Records.{records-short, records-more, length-records, records-at, record-front}
+use Rattle.batches.specs.Batch.{recordLength, recordFrom, idOf, depthOf, Fit, WellListed, records, fit, below, ordered, wellListed}
+use Rattle.batches.proofs.Records.{records-short, records-more, length-records, records-at}
 
 -- tests
 
@@ -115,24 +115,20 @@ pub all-ordered : (list : List ℕ) → length list % recordLength ≡ 0 → ord
 unfolding wellListed
 all-ordered list h e = rw (eq-eqb _ _ h) e
 
--- as far as its end a list is all there
-pub to-end : (list : List ℕ) (r : Bool) → r ≡ wellListed (take (length list) list) → wellListed list ≡ r
-to-end list r e = sym (e ∙ ap wellListed (take-length list))
+-- a turn of the check: what is left decides, and its first record with it
+module _ (list : List ℕ) (at : ℕ) (h : at + recordLength ≤ length list) (left : ordered (records list) ≡ ordered (records (drop at list))) where
+  turn : ordered (records list)
+      ≡ fit (recordFrom list at) && (below (recordFrom list at) (records (drop (at + recordLength) list)) && ordered (records (drop (at + recordLength) list)))
+  turn = left ∙ ordered-next list at h
 
--- a turn of the check up to `end`: what is left decides, and its first record with it
-module _ (list : List ℕ) (end at : ℕ) (h : at + recordLength ≤ end) (k : end ≤ length list) (left : ordered (records (take end list)) ≡ ordered (records (drop at (take end list)))) where
-  turn : ordered (records (take end list))
-      ≡ fit (recordFrom list at) && (below (recordFrom list at) (records (drop (at + recordLength) (take end list))) && ordered (records (drop (at + recordLength) (take end list))))
-  turn = left ∙ rw (record-front list at end h) at (ordered-next (take end list) at (omega (arith, length-take-le end list k)))
+  pub unfit : fit (recordFrom list at) ≡ false → wellListed list ≡ false
+  unfit f = not-ordered list (turn ∙ rw f)
 
-  pub unfit : fit (recordFrom list at) ≡ false → wellListed (take end list) ≡ false
-  unfit f = not-ordered (take end list) (turn ∙ rw f)
+  pub not-below : fit (recordFrom list at) ≡ true → below (recordFrom list at) (records (drop (at + recordLength) list)) ≡ false → wellListed list ≡ false
+  not-below f b = not-ordered list (turn ∙ rw (f, b))
 
-  pub not-below : fit (recordFrom list at) ≡ true → below (recordFrom list at) (records (drop (at + recordLength) (take end list))) ≡ false → wellListed (take end list) ≡ false
-  not-below f b = not-ordered (take end list) (turn ∙ rw (f, b))
-
-  pub goes-on : fit (recordFrom list at) ≡ true → below (recordFrom list at) (records (drop (at + recordLength) (take end list))) ≡ true
-      → ordered (records (take end list)) ≡ ordered (records (drop (at + recordLength) (take end list)))
+  pub goes-on : fit (recordFrom list at) ≡ true → below (recordFrom list at) (records (drop (at + recordLength) list)) ≡ true
+      → ordered (records list) ≡ ordered (records (drop (at + recordLength) list))
   goes-on f b = turn ∙ rw (f, b)
 
 -- ---- test and sentence

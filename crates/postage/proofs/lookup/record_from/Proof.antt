@@ -1,8 +1,8 @@
 -- A whole record, or what is left.
 use borrow.Author.Needs.{needs}
-use Rattle.postage.proofs.Records.{record-part, rest-part}
-use Rattle.postage.proofs.batches.record_from.Statement.{statement}
-use Rattle.postage.proofs.batches.record_from.Tie as tie
+use Rattle.batches.proofs.Records.{record-part, rest-part}
+use Rattle.postage.proofs.lookup.record_from.Statement.{statement}
+use Rattle.postage.proofs.lookup.record_from.Tie as tie
 
 returns : tie.Need-returns
 returns c = let a = c .before .before .args in rest-part (a .batches .now) (a .at) (c .before .if1 .taken)
