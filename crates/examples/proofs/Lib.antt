@@ -1,3 +1,2 @@
--- The tables, proved. A reader opens Theorems.
-pub mod Theorems
+-- The table, proved.
 pub mod Books

@@ -9,8 +9,8 @@ use Rattle.postage.specs.Stamp.{bucketOf}
 use Rattle.book.specs.Layout.{stateIn, depthIn, countIn}
 use Rattle.histories.specs.Histories.{Offer, after, answer, heard, opened}
 use Rattle.listing.specs.Sheet.{example}
-use Rattle.examples.specs.Settled as Settled
-use Rattle.examples.specs.Settled.{owner}
+use Rattle.settled.specs.Settled as Settled
+use Rattle.settled.specs.Settled.{owner}
 
 -- the owner's batch, with a depth that gives every bucket 32 slots
 unfoldable pub batches : List ℕ

@@ -1,3 +1,2 @@
--- The tables that a reader looks for.
-pub mod Settled
+-- The table that a reader looks for.
 pub mod Books

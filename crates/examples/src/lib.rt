@@ -1,2 +1,2 @@
-// The settled examples of document 01 that are proved: those it marks so, as one table under one statement, and those of a seventeenth
-// slot. Definitions and theorems alone.
+// The settled examples of document 01 on the bytes of a book: those of a seventeenth slot, and the listing's book. Definitions and theorems
+// alone.

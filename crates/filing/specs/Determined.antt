@@ -5,7 +5,6 @@ use Prim.Native.Nat.{ℕ}
 use Rattle.filing.specs.Near.{nearIn}
 use Rattle.filing.specs.Least.{leastIn}
 use Rattle.filing.specs.Keep.{keptBytes, staying}
-use Rattle.filing.specs.Edit.{added, burstBytes}
 
 pub near-determined : (s g : List ℕ) (r r′ : ℕ) → r ≡ nearIn s g → r′ ≡ nearIn s g → r ≡ r′
 near-determined s g r r′ p q = p ∙ sym q
@@ -16,9 +15,3 @@ least-depth-determined s g r r′ p q = p ∙ sym q
 pub keep-inside-determined : (s : List ℕ) (i d r r′ : ℕ) (t t′ : List ℕ)
     → (r ≡ staying s i d) × (t ≡ keptBytes s d) → (r′ ≡ staying s i d) × (t′ ≡ keptBytes s d) → (r ≡ r′) × (t ≡ t′)
 keep-inside-determined s i d r r′ t t′ p q = (p .0 ∙ sym (q .0), p .1 ∙ sym (q .1))
-
-pub add-record-determined : (s : List ℕ) (n i : ℕ) (g t t′ : List ℕ) → t ≡ added s n i g → t′ ≡ added s n i g → t ≡ t′
-add-record-determined s n i g t t′ p q = p ∙ sym q
-
-pub burst-determined : (s t t′ : List ℕ) → t ≡ burstBytes s → t′ ≡ burstBytes s → t ≡ t′
-burst-determined s t t′ p q = p ∙ sym q

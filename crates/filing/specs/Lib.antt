@@ -1,7 +1,6 @@
--- What an offer does to the bytes of a book.
+-- What a rise does to the bytes of a book.
 pub mod Whole
 pub mod Near
 pub mod Least
 pub mod Keep
-pub mod Edit
 pub mod Determined

@@ -12,7 +12,7 @@ use Rattle.moving.proofs.Edits.{placed-fits}
 use Rattle.settling.specs.Book.{overfull}
 use Rattle.book.specs.Layout.{laid}
 use Rattle.book.specs.Book.{Book, inState, write}
-use Rattle.filing.specs.Edit.{burstBytes}
+use Rattle.editing.specs.Edit.{burstBytes}
 use Rattle.reserve.specs.Edit.{Stands}
 use Rattle.book.proofs.Laid.{length-laid}
 use Rattle.book.proofs.Headed.{header, length-header, set-flag, set-depth, over-count, over-middle, zeros, write-overfull}

@@ -24,7 +24,7 @@ use Rattle.book.specs.Shape.{shapeIn}
 use Rattle.book.specs.Layout.{depthIn, overlayIn, capacityIn, countIn, recordsIn, recordIn}
 use Rattle.book.specs.Book.{read}
 use Rattle.filing.specs.Near.{nearIn}
-use Rattle.filing.specs.Edit.{added}
+use Rattle.editing.specs.Edit.{added}
 use Rattle.filing.proofs.Nearing.{near-in}
 use Rattle.reserve.specs.Awaits.{Awaits, AwaitsAt, Free, Ends}
 use Rattle.book.proofs.Cuts.{counted}

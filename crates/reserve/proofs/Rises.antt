@@ -21,7 +21,7 @@ use Rattle.book.proofs.Cuts.{counted}
 use Rattle.book.proofs.Fields.{count-there}
 use Rattle.filing.specs.Least.{leastIn}
 use Rattle.filing.specs.Keep.{keptBytes, staying}
-use Rattle.filing.specs.Edit.{added, burstBytes}
+use Rattle.editing.specs.Edit.{added, burstBytes}
 use Rattle.filing.proofs.Counting.{least-in}
 use Rattle.reserve.specs.Edit.{Stands}
 use Rattle.reserve.specs.Awaits.{Awaits, Free, Ends}

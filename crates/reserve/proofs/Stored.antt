@@ -13,7 +13,7 @@ use Rattle.moving.proofs.Edits.{placed-fits, inserted-fits, length-inserted}
 use Rattle.settling.specs.Meaning.{Each}
 use Rattle.book.specs.Layout.{laid}
 use Rattle.book.specs.Book.{Book}
-use Rattle.filing.specs.Edit.{added}
+use Rattle.editing.specs.Edit.{added}
 use Rattle.reserve.specs.Edit.{Stands}
 use Rattle.book.proofs.Laid.{Sized, each-append, each-take, each-drop, each-set, laid-append, laid-cons, length-laid, take-laid, drop-laid}
 use Rattle.book.proofs.Headed.{over-count, head, zeros, write-good}

@@ -6,9 +6,9 @@ use mathlib.Core.List.{List}
 use Prim.Native.Nat.{ℕ, _+_}
 use Rattle.octets.specs.Number.{bytesOf}
 use Rattle.moving.specs.Moving.{placed}
-use Rattle.filing.specs.Edit.{added}
-use Rattle.filing.proofs.edit.add_record.Statement.{statement}
-use Rattle.filing.proofs.edit.add_record.Tie as tie
+use Rattle.editing.specs.Edit.{added}
+use Rattle.editing.proofs.edit.add_record.Statement.{statement}
+use Rattle.editing.proofs.edit.add_record.Tie as tie
 
 returns : tie.Need-returns
 unfolding added

@@ -17,7 +17,7 @@ use Rattle.batches.specs.Batch.{records, fit, below, ordered, wellListed, find}
 use Rattle.postage.specs.Stamp.{bucketOf, slotsOf}
 use Rattle.postage.specs.Rules.{stampNumber, inBucket, inSlots, isOwner, rules, checked}
 use Rattle.merkle.specs.Segment.{segmentOf}
-use Rattle.examples.specs.Settled.{from, address, owner, batches, stamp, Settled}
+use Rattle.settled.specs.Settled.{from, address, owner, batches, stamp, Settled}
 
 -- ---- shared bits
 

@@ -9,9 +9,9 @@ use lib.ListN.{length, set, replicate, length-set}
 use Rattle.octets.specs.Number.{bytesOf}
 use Rattle.moving.specs.Moving.{placed}
 use Rattle.moving.proofs.Edits.{length-placed}
-use Rattle.filing.specs.Edit.{burstBytes}
-use Rattle.filing.proofs.edit.burst.Statement.{statement}
-use Rattle.filing.proofs.edit.burst.Tie as tie
+use Rattle.editing.specs.Edit.{burstBytes}
+use Rattle.editing.proofs.edit.burst.Statement.{statement}
+use Rattle.editing.proofs.edit.burst.Tie as tie
 
 returns : tie.Need-returns
 unfolding burstBytes

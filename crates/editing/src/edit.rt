@@ -3,7 +3,7 @@ use moving::clear;
 use moving::insert;
 use moving::write32;
 ghost use mathlib.Core.Path.{_≡_};
-ghost use Rattle.filing.specs.Edit.{added, burstBytes};
+ghost use Rattle.editing.specs.Edit.{added, burstBytes};
 
 // The record `given`, put in at place `at` among the `count` records; those from there on move up. Where there is no such place, no room
 // or no record, nothing changes.

@@ -1,0 +1,3 @@
+-- A book's bytes after an edit.
+pub mod Edit
+pub mod Determined

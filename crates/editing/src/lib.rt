@@ -1,0 +1,2 @@
+// A book's bytes, edited in place.
+pub mod edit;

@@ -1,0 +1,2 @@
+-- The table, proved.
+pub mod Theorems

@@ -1,0 +1,2 @@
+-- The table that a reader looks for.
+pub mod Settled
