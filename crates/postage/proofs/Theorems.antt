@@ -19,7 +19,7 @@ use Rattle.postage.proofs.Search.{find-cases, find-absent, find-held}
 use Rattle.postage.proofs.InOrder.{in-order}
 use Rattle.postage.proofs.Slots.{slot-bucket, bucket-start, bucket-bits, most-slots}
 
--- ---- the batch list
+-- ---- looking a batch up
 
 -- in a well-formed list each batch is found under its id, the last one too
 pub each-batch-is-found : (list : List ℕ) → WellListed list → (i : ℕ) → i < count list → find (idOf (batchAt list i)) (records list) ≡ batchAt list i
