@@ -25,10 +25,10 @@ use Rattle.book.specs.Shape.{shapeIn}
 use Rattle.book.proofs.Cuts.{record-there}
 use Rattle.book.proofs.Fields.{capacity-there}
 use Rattle.filing.specs.Whole.{whole}
-use Rattle.filing.specs.Near.{nearIn}
+use Rattle.nearing.specs.Near.{nearIn}
 use Rattle.filing.specs.Least.{leastIn}
 use Rattle.filing.proofs.Wholeness.{whole-room, whole-count}
-use Rattle.filing.proofs.Nearing.{near-in}
+use Rattle.nearing.proofs.Nearing.{near-in}
 
 pub near-most : (o : List ℕ) (k n : ℕ) → n ≡ nearOf o k → n ≤ 16
 unfolding nearOf

@@ -2,8 +2,6 @@
 
 -- bytes that hold what their header counts
 pub mod Wholeness
--- nearness by two words
-pub mod Nearing
 -- the pass that counts, and the depth by its counters
 pub mod Counting
 -- the pass that packs, and the bytes it leaves

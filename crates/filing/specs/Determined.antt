@@ -2,12 +2,8 @@
 use mathlib.Core.Path.{_≡_, sym, _∙_}
 use mathlib.Core.List.{List}
 use Prim.Native.Nat.{ℕ}
-use Rattle.filing.specs.Near.{nearIn}
 use Rattle.filing.specs.Least.{leastIn}
 use Rattle.filing.specs.Keep.{keptBytes, staying}
-
-pub near-determined : (s g : List ℕ) (r r′ : ℕ) → r ≡ nearIn s g → r′ ≡ nearIn s g → r ≡ r′
-near-determined s g r r′ p q = p ∙ sym q
 
 pub least-depth-determined : (s g : List ℕ) (r r′ : ℕ) → r ≡ leastIn s g → r′ ≡ leastIn s g → r ≡ r′
 least-depth-determined s g r r′ p q = p ∙ sym q

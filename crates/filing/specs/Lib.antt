@@ -1,6 +1,5 @@
 -- What a rise does to the bytes of a book.
 pub mod Whole
-pub mod Near
 pub mod Least
 pub mod Keep
 pub mod Determined

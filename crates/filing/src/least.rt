@@ -1,10 +1,10 @@
 // The depth that a book rises to: how many records lie how near, and the least depth at which they fit.
-use crate::near::near;
 use crate::near::near_at;
 use crate::whole::is_whole;
 use book::header::capacity;
 use book::header::count;
 use book::header::depth;
+use nearing::near::near;
 ghost use mathlib.Core.List.{List, _∷_};
 ghost use mathlib.Core.Path.{_≡_};
 ghost use Prim.Native.Nat.{ℕ, _+_, _*_, _≤_};

@@ -5,23 +5,8 @@ ghost use Prim.Native.Nat.{_+_, _*_, _≤_};
 ghost use lib.ListN.{length, take, drop};
 ghost use Rattle.records.specs.Record.{slot, nearOf};
 ghost use Rattle.book.specs.Layout.{overlayIn};
-ghost use Rattle.filing.specs.Near.{nearIn};
 
-// The bits that a record shares with the overlay of a book; 0 where the one is no record or the other has no header.
-pub fn near(book: &[u8], given: &[u8]) -> usize
-    ensures { λ r. ⌜ r ≡ nearIn (now (book .entry)) (now (given .entry)) ⌝ }
-{
-    if book.len() < 48 {
-        return 0;
-    }
-    if given.len() != 145 {
-        return 0;
-    }
-    let apart = read16(given, 34) ^ read16(book, 8);
-    u16::leading_zeros(apart) as usize
-}
-
-// The same for the record at place `at` of the book.
+// The bits that the record at place `at` of a book shares with its overlay.
 pub(crate) fn near_at(book: &[u8], at: usize) -> usize
     requires { ⌜ 48 + 145 * (at + 1) ≤ length (now book) ⌝ }
     ensures { λ r. ⌜ r ≡ nearOf (overlayIn (now (book .entry))) (slot (take 145 (drop (48 + 145 * at) (now (book .entry))))) ⌝ }

@@ -23,9 +23,9 @@ use Rattle.records.proofs.Ranks.{first-says, second-says, neither-says}
 use Rattle.book.specs.Shape.{shapeIn}
 use Rattle.book.specs.Layout.{depthIn, overlayIn, capacityIn, countIn, recordsIn, recordIn}
 use Rattle.book.specs.Book.{read}
-use Rattle.filing.specs.Near.{nearIn}
+use Rattle.nearing.specs.Near.{nearIn}
 use Rattle.editing.specs.Edit.{added}
-use Rattle.filing.proofs.Nearing.{near-in}
+use Rattle.nearing.proofs.Nearing.{near-in}
 use Rattle.reserve.specs.Awaits.{Awaits, AwaitsAt, Free, Ends}
 use Rattle.book.proofs.Cuts.{counted}
 use Rattle.book.proofs.Records.{no-record}

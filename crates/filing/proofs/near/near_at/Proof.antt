@@ -4,7 +4,7 @@ use native.Mathlib.Omega.{arith}
 use lib.Bits.{bitXor}
 use lib.Count.{leading-le}
 use Rattle.octets.proofs.Bytes.{bytes-known}
-use Rattle.filing.proofs.Nearing
+use Rattle.nearing.proofs.Nearing
 use Rattle.filing.proofs.near.near_at.Statement.{statement}
 use Rattle.filing.proofs.near.near_at.Tie as tie
 

@@ -6,10 +6,10 @@ use native.Mathlib.Omega.{arith}
 use lib.Bits.{bitXor}
 use lib.Count.{leading-le}
 use Rattle.octets.proofs.Bytes.{bytes-known}
-use Rattle.filing.specs.Near.{nearIn}
-use Rattle.filing.proofs.Nearing
-use Rattle.filing.proofs.near.near.Statement.{statement}
-use Rattle.filing.proofs.near.near.Tie as tie
+use Rattle.nearing.specs.Near.{nearIn}
+use Rattle.nearing.proofs.Nearing
+use Rattle.nearing.proofs.near.near.Statement.{statement}
+use Rattle.nearing.proofs.near.near.Tie as tie
 
 returns : tie.Need-returns
 unfolding nearIn

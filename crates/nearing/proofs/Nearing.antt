@@ -16,7 +16,7 @@ use Rattle.octets.proofs.Numbers.{bigAt-fits}
 use Rattle.records.specs.Record.{slot, nearOf}
 use Rattle.records.proofs.Buckets.{near-words}
 use Rattle.book.specs.Layout.{overlayIn}
-use Rattle.filing.specs.Near.{nearIn}
+use Rattle.nearing.specs.Near.{nearIn}
 
 -- a number in a part of a string stands in the string
 number-in-part : (w n k at : ℕ) (s : List ℕ) → k + w ≤ n → at + n ≤ length s → bigAt w (take n (drop at s)) k ≡ bigAt w s (at + k)

@@ -1,0 +1,2 @@
+-- nearness by two words
+pub mod Nearing

@@ -1,0 +1,2 @@
+// How near a record lies to a book's overlay.
+pub mod near;
