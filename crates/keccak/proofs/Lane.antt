@@ -11,8 +11,8 @@ use lib.Seq.{set-set, set-getD, getD-set-same, getD-set-other, ext-getD, drop-ni
 use Rattle.octets.specs.Bytes.{Bytes}
 use Rattle.octets.specs.Number.{little}
 use Rattle.octets.proofs.Bytes.{bytes-take, bytes-drop}
-use Rattle.permutation.specs.Lanes.{tab}
-use Rattle.permutation.proofs.Tabulated.{tab-at}
+use Rattle.tables.specs.Rules.{tab}
+use Rattle.tables.proofs.Tabulated.{tab-at}
 use Rattle.keccak.specs.Sponge.{xorByte}
 use Rattle.keccak.specs.Hash.{word, xorBlock}
 use Rattle.keccak.proofs.Xor.{xor-assoc}

@@ -5,7 +5,7 @@ use Prim.Native.Nat.{ℕ, zero, suc, _≤_}
 use native.Mathlib.Omega.{arith}
 use lib.ListN.{length, replicate}
 use Rattle.octets.specs.Bytes.{Bytes}
-use Rattle.permutation.specs.Lanes.{tab}
+use Rattle.tables.specs.Rules.{tab}
 use Rattle.keccak.specs.declared.sponge.Sponge.{Sponge}
 use Rattle.keccak.specs.Sponge.{fresh, usable, absorbed, absorbedAll, joinedParts, finished, digestOf, byteOf, Holds}
 use Rattle.keccak.specs.Hash.{keccak256, textbook, blocks, blockCount, padded}

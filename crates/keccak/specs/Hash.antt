@@ -6,7 +6,7 @@ use Prim.Native.Nat.{ℕ, zero, suc, _-_, _*_, _/_, _%_}
 use lib.Bits.{bitXor}
 use lib.ListN.{length, getD, take, drop, replicate}
 use Rattle.octets.specs.Number.{little}
-use Rattle.permutation.specs.Lanes.{tab}
+use Rattle.tables.specs.Rules.{tab}
 use Rattle.permutation.specs.Permutation.{permute}
 use Rattle.keccak.specs.Sponge.{digestOf}
 

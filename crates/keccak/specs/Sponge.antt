@@ -6,7 +6,7 @@ use Prim.Native.Nat.{ℕ, _+_, _*_, _/_, _%_, _^_, _<_}
 use lib.Bits.{bitXor}
 use lib.Dec.{ltb, eqb}
 use lib.ListN.{length, getD, set, replicate}
-use Rattle.permutation.specs.Lanes.{tab}
+use Rattle.tables.specs.Rules.{tab}
 use Rattle.permutation.specs.Permutation.{permute}
 use Rattle.keccak.specs.declared.sponge.Sponge.{Sponge}
 

@@ -2,8 +2,9 @@
 use mathlib.Core.Path.{_≡_, refl}
 use mathlib.Core.List.{List}
 use Prim.Native.Nat.{ℕ, _+_, _*_, _%_, _/_}
-use Rattle.permutation.specs.Lanes.{tab, lane, rot}
-use Rattle.permutation.specs.Steps.{offset, rho, pi}
+use Rattle.tables.specs.Rules.{tab, offset}
+use Rattle.permutation.specs.Lanes.{lane, rot}
+use Rattle.permutation.specs.Steps.{rho, pi}
 
 -- B[y, 2x + 3y] = rot(A[x, y], r[x, y]), at each (x, y)
 pub rho-and-pi : (a : List ℕ)

@@ -6,7 +6,8 @@ use native.Mathlib.Omega.{arith}
 use native.Mathlib.Numerals.{add-one}
 use lib.Bits.{bitXor}
 use lib.ListN.{getD, length}
-use Rattle.permutation.specs.Steps.{D, rho, pi, chi, iota, RC}
+use Rattle.tables.specs.Rules.{RC}
+use Rattle.permutation.specs.Steps.{D, rho, pi, chi, iota}
 use Rattle.permutation.specs.Permutation.{once, rounds, permute}
 use Rattle.permutation.specs.Rows.{row, mixed}
 

@@ -2,15 +2,7 @@
 use mathlib.Core.List.{List}
 use mathlib.Core.Path.{_≡_, _∙_, sym}
 use Prim.Native.Nat.{ℕ}
-use Rattle.permutation.specs.Lanes.{tab}
-use Rattle.permutation.specs.Steps.{RC, offsets}
 use Rattle.permutation.specs.Permutation.{permute}
-
-pub round-constants-determined : (r s : List ℕ) → r ≡ tab RC 0 24 → s ≡ tab RC 0 24 → r ≡ s
-round-constants-determined r s p q = p ∙ sym q
-
-pub lane-offsets-determined : (r s : List ℕ) → r ≡ offsets → s ≡ offsets → r ≡ s
-lane-offsets-determined r s p q = p ∙ sym q
 
 pub permute-determined : (start r s : List ℕ) → r ≡ permute start → s ≡ permute start → r ≡ s
 permute-determined start r s p q = p ∙ sym q

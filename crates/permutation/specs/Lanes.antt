@@ -1,13 +1,9 @@
 -- The state: 25 lanes of 64 bits, lane (x, y) at x + 5y, coordinates modulo 5.
-use mathlib.Core.List.{List, [], _∷_}
+use mathlib.Core.List.{List}
 use Prim.Native.Nat.{ℕ, zero, suc, _+_, _-_, _*_, _/_, _%_, _^_}
 use lib.Bits.{bitOr}
 use lib.ListN.{getD}
-
--- the n numbers f i, f (i + 1), ..
-abbrev pub tab : (ℕ → ℕ) → ℕ → ℕ → List ℕ
-tab f i zero = []
-tab f i (suc n) = f i ∷ tab f (suc i) n
+use Rattle.tables.specs.Rules.{tab}
 
 -- A[x, y]
 abbrev pub lane : List ℕ → ℕ → ℕ → ℕ

@@ -1,7 +1,8 @@
 -- Keccak-f[1600]: 24 rounds.
 use mathlib.Core.List.{List}
 use Prim.Native.Nat.{ℕ, zero, suc}
-use Rattle.permutation.specs.Steps.{theta, rho, pi, chi, iota, RC}
+use Rattle.tables.specs.Rules.{RC}
+use Rattle.permutation.specs.Steps.{theta, rho, pi, chi, iota}
 
 -- the round whose constant is rc
 unfoldable pub once : ℕ → List ℕ → List ℕ

@@ -3,7 +3,8 @@ use mathlib.Core.List.{List}
 use Prim.Native.Nat.{ℕ}
 use lib.Bits.{bitXor}
 use lib.ListN.{getD}
-use Rattle.permutation.specs.Lanes.{tab, lane, state}
+use Rattle.tables.specs.Rules.{tab}
+use Rattle.permutation.specs.Lanes.{lane, state}
 
 -- lanes (0, y) to (4, y)
 abbrev pub row : ℕ → List ℕ → List ℕ

@@ -1,6 +1,5 @@
 // Keccak-f[1600] on 25 lanes: lane (x, y) stands at x + 5y.
 mod rows;
-mod tables;
 
 use rows::column_parities;
 use rows::row0;
@@ -8,8 +7,7 @@ use rows::row1;
 use rows::row2;
 use rows::row3;
 use rows::row4;
-pub use tables::lane_offsets;
-pub use tables::round_constants;
+use tables::round_constants;
 ghost use mathlib.Core.Path.{_≡_};
 ghost use Rattle.permutation.specs.Permutation.{once, permute};
 

@@ -1,5 +1,5 @@
 // A round's rows. Each row of the next state is made from five lanes of this one, so that no second state is held whole.
-use crate::tables::LANE_OFFSETS;
+use tables::LANE_OFFSETS;
 ghost use mathlib.Core.Path.{_≡_};
 ghost use Rattle.permutation.specs.Steps.{D, rho, pi, chi};
 ghost use Rattle.permutation.specs.Rows.{row, mixed};

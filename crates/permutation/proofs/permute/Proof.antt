@@ -5,9 +5,9 @@ use native.Mathlib.Omega.{arith}
 use borrow.Author.Needs.{needs}
 use lib.ListN.{getD}
 use mathlib.Core.List.{List}
-use Rattle.permutation.specs.Steps.{RC}
+use Rattle.tables.specs.Rules.{RC}
+use Rattle.tables.proofs.Tabulated.{tab-at}
 use Rattle.permutation.specs.Permutation.{rounds, permute}
-use Rattle.permutation.proofs.Tabulated.{tab-at}
 use Rattle.permutation.proofs.Rounds.{one-more}
 use Rattle.permutation.proofs.permute.Statement.{statement}
 use Rattle.permutation.proofs.permute.Tie as tie

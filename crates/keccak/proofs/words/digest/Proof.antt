@@ -4,8 +4,8 @@ use Prim.Native.Nat.{_≤_, _-_}
 use native.Mathlib.Omega.{arith}
 use borrow.Author.Needs.{needs}
 use lib.ListN.{length, take, length-set}
-use Rattle.permutation.specs.Lanes.{tab}
-use Rattle.permutation.proofs.Tabulated.{tab-more, tab-all}
+use Rattle.tables.specs.Rules.{tab}
+use Rattle.tables.proofs.Tabulated.{tab-more, tab-all}
 use Rattle.keccak.specs.Sponge.{byteOf, digestOf}
 use Rattle.keccak.proofs.words.digest.Statement.{statement}
 use Rattle.keccak.proofs.words.digest.Tie as tie

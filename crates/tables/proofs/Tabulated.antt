@@ -6,7 +6,7 @@ use native.Mathlib.Nat.{not-suc-le-zero, le-of-suc-le-suc, zero-add, suc-add, ad
 use native.Mathlib.Numerals.{add-one}
 use lib.ListN.{getD, set, take, length}
 use lib.Seq.{take-suc-set, take-all}
-use Rattle.permutation.specs.Lanes.{tab}
+use Rattle.tables.specs.Rules.{tab}
 
 tab-from : (f : ℕ → ℕ) (i n k : ℕ) → k < n → getD (tab f i n) k 0 ≡ f (i + k)
 tab-from f i zero k h = absurd (not-suc-le-zero h)

@@ -1,8 +1,7 @@
 // The two tables of the permutation, written out. Each is shown to follow its rule by the contract of the function that hands it
 // out: antt computes the rule over the whole table.
 ghost use mathlib.Core.Path.{_≡_};
-ghost use Rattle.permutation.specs.Lanes.{tab};
-ghost use Rattle.permutation.specs.Steps.{RC, offsets};
+ghost use Rattle.tables.specs.Rules.{tab, RC, offsets};
 
 const ROUND_CONSTANTS: [u64; 24] = [
     0x0000000000000001,
@@ -31,7 +30,7 @@ const ROUND_CONSTANTS: [u64; 24] = [
     0x8000000080008008,
 ];
 
-pub(crate) const LANE_OFFSETS: [u64; 25] = [
+pub const LANE_OFFSETS: [u64; 25] = [
     0,
     1,
     62,
