@@ -3,7 +3,7 @@ use crate::case::{field, fields};
 use crate::{books, chunks, draws, hashes, stamps};
 use verdict::equal::{Verdict, judged_bytes};
 
-#[derive(Drop)]
+#[derive(Clone, Copy)]
 pub(crate) enum Outcome {
     Judged(Verdict),
     NotUnderstood,

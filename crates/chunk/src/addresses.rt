@@ -5,7 +5,7 @@ ghost use Rattle.chunk.specs.Answer.{address_number, refused, addressed, anchore
 
 use tree::{hash, root_of};
 
-#[derive(Drop)]
+#[derive(Clone, Copy)]
 pub enum AddressAnswer {
     Done,
     WrongLength,

@@ -1,4 +1,5 @@
 // Addresses of chunks, plain and anchored.
+#![tactic(auto)]
 mod addresses;
 
 pub use addresses::{AddressAnswer, Addressed, address, anchored_address};

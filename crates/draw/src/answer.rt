@@ -5,7 +5,7 @@ ghost use Rattle.draw.specs.Answer.{draw_number, draw_place, of_cell, is_done, r
 use shelf::CellAnswer;
 
 // Answers about a cell of the shelf name the place of its record, from 0.
-#[derive(Drop)]
+#[derive(Clone, Copy)]
 pub enum DrawAnswer {
     Done,
     NotWellFormed,

@@ -1,4 +1,5 @@
 // The draw: the shelf read against the book, the sixteen smallest pairs, and their commitment.
+#![tactic(auto)]
 mod answer;
 mod drawing;
 

@@ -1,2 +1,3 @@
 // A book's bytes, edited in place.
+#![tactic(auto)]
 pub mod edit;

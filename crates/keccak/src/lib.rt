@@ -1,4 +1,5 @@
 // Keccak-256: the Keccak team's sponge with its original padding.
+#![tactic(auto)]
 mod sponge;
 mod words;
 

@@ -1,4 +1,5 @@
 // Prints the listing of the book on standard input.
+#![tactic(auto)]
 mod input;
 
 use input::read_all;

@@ -1,4 +1,5 @@
 // Moves inside a lent buffer: bytes put, cleared, moved and put in between others, and numbers written.
+#![tactic(auto)]
 mod edit;
 mod number;
 

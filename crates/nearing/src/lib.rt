@@ -1,2 +1,3 @@
 // How near a record lies to a book's overlay.
+#![tactic(auto)]
 pub mod near;

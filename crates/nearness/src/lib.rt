@@ -1,2 +1,3 @@
 // Nearness: how many leading bits two 32-byte numbers share.
+#![tactic(auto)]
 pub mod near;

@@ -6,7 +6,7 @@ ghost use Rattle.nearness.specs.Near.{nearness_of, near_number, bits_in};
 use octets::number::read64;
 
 // What is said of two byte strings: their shared bits, or that one of them is not 32 bytes long.
-#[derive(Drop)]
+#[derive(Clone, Copy)]
 pub enum Near {
     Bits(u32),
     WrongLength,

@@ -1,3 +1,5 @@
 // Bytes: their order, and numbers in them.
+#![tactic(auto)]
+
 pub mod number;
 pub mod order;

@@ -5,7 +5,7 @@ ghost use Rattle.octets.specs.Order.{byte_order};
 use crate::number::{little_word, word};
 
 // How a first value stands to a second.
-#[derive(Drop)]
+#[derive(Clone, Copy)]
 pub enum Order {
     Less,
     Same,

@@ -1,2 +1,3 @@
 // Opening a book.
+#![tactic(auto)]
 pub mod open;

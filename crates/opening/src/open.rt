@@ -6,7 +6,7 @@ ghost use Rattle.opening.specs.Open.{in_range, fresh_book, openAnswer, openBytes
 use moving::{clear, put, write32};
 
 // What opening answers.
-#[derive(Drop)]
+#[derive(Clone, Copy)]
 pub enum OpenAnswer {
     Done,
     OutOfRange,

@@ -1,4 +1,5 @@
 // Postage: stamps, and the rules that a stamp must pass.
+#![tactic(auto)]
 mod lookup;
 mod rules;
 

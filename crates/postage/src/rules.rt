@@ -9,7 +9,7 @@ use batches::{DEPTH, ID, check_batches};
 use octets::number::{read16, read32};
 use octets::order::{Order, compare};
 
-#[derive(Drop)]
+#[derive(Clone, Copy)]
 pub enum StampAnswer {
     Passes,
     BadList,

@@ -1,4 +1,5 @@
 // Segment proofs made, plain and anchored.
+#![tactic(auto)]
 mod making;
 
 pub use making::{ProofMade, make_anchored_proof, make_proof};

@@ -8,7 +8,7 @@ use moving::put;
 use octets::order::lesser;
 use tree::root_of;
 
-#[derive(Drop)]
+#[derive(Clone, Copy)]
 pub enum ProofMade {
     Done,
     WrongLength,

@@ -1,2 +1,3 @@
 // Records of 145 bytes: their slots and rank, and the choice between two.
+#![tactic(auto)]
 pub mod rank;

@@ -8,7 +8,7 @@ ghost use Rattle.records.specs.Choice.{choice, higher_of, place_of, preferred};
 use octets::order::{Order, compare};
 
 // Which of two records ranks higher.
-#[derive(Drop)]
+#[derive(Clone, Copy)]
 pub enum Choice {
     First,
     Second,

@@ -1,4 +1,5 @@
 // The offer to a book in bytes.
+#![tactic(auto)]
 mod enter;
 pub mod offer;
 mod place;

@@ -13,7 +13,7 @@ use postage::{StampAnswer, check_stamp};
 use wellformed::check::{BookAnswer, check_book};
 
 // What an offer answers.
-#[derive(Drop)]
+#[derive(Clone, Copy)]
 pub enum OfferAnswer {
     Kept,
     Dropped,

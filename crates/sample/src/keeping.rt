@@ -8,7 +8,7 @@ use moving::insert;
 use octets::order::{Order, compare, lesser};
 
 // Where a pair belongs among those that are held.
-#[derive(Drop)]
+#[derive(Clone, Copy)]
 pub(crate) enum Found {
     Held,
     At(usize),

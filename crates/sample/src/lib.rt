@@ -1,4 +1,5 @@
 // The sample: the sixteen smallest pairs, and their commitment.
+#![tactic(auto)]
 mod commitment;
 mod keeping;
 

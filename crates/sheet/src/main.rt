@@ -1,4 +1,5 @@
 // Runs document 01's settled examples that are not proved as a table, and says of each what was expected and what came.
+#![tactic(auto)]
 mod draws;
 mod hashing;
 mod listed;

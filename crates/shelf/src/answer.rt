@@ -3,7 +3,7 @@ ghost use Rattle.std.specs.Prelude.{◌≡◌};
 ghost use Rattle.shelf.specs.Read.{is_sound};
 
 // What is wrong with a cell, if anything.
-#[derive(Drop)]
+#[derive(Clone, Copy)]
 pub enum CellAnswer {
     Sound,
     ShelfEnds,

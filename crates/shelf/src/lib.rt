@@ -1,4 +1,5 @@
 // The shelf: one chunk on it, read against its record.
+#![tactic(auto)]
 mod answer;
 mod cell;
 mod judging;

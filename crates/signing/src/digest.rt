@@ -5,7 +5,7 @@ ghost use Rattle.signing.specs.Digest.{signed, digest_number, refused, stamp_dig
 
 use keccak::Sponge;
 
-#[derive(Drop)]
+#[derive(Clone, Copy)]
 pub enum DigestAnswer {
     Done,
     WrongLength,

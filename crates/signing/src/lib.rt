@@ -1,4 +1,5 @@
 // Signing: the digest that a batch's owner signs for a chunk's address and its stamp.
+#![tactic(auto)]
 mod digest;
 
 pub use digest::{DigestAnswer, StampDigested, stamp_digest};

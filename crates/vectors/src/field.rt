@@ -4,7 +4,7 @@
 pub(crate) const PART_LIMIT: usize = 8192;
 
 // What has been read of the open field. Its bytes stand at the start of a lent space.
-#[derive(Drop)]
+#[derive(Clone, Copy)]
 pub(crate) enum Field {
     // Nothing of the whole line.
     Start,
@@ -70,7 +70,7 @@ fn digits(n: usize, b: u8, space: &mut [u8]) -> Field {
 }
 
 // What a byte is worth as a hexadecimal digit.
-#[derive(Drop)]
+#[derive(Clone, Copy)]
 enum Digit {
     Worth(u8),
     Other,

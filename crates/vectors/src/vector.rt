@@ -19,7 +19,7 @@ pub(crate) struct Vector {
 }
 
 // What a line comes to; where it was hashed, with how many parts.
-#[derive(Drop)]
+#[derive(Clone, Copy)]
 pub(crate) enum Verdict {
     Comment,
     NotUnderstood,

@@ -8,7 +8,7 @@ use moving::put;
 use octets::order::{Order, compare};
 use tree::hash;
 
-#[derive(Drop)]
+#[derive(Clone, Copy)]
 pub enum ProofChecked {
     Passes,
     Fails,

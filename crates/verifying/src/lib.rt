@@ -1,4 +1,5 @@
 // Segment proofs checked, plain and anchored.
+#![tactic(auto)]
 mod checking;
 
 pub use checking::{ProofChecked, check_anchored_proof, check_proof};

@@ -10,7 +10,7 @@ use octets::number::{read16, read32};
 use octets::order::{Order, compare};
 
 // What is said of bytes that are to be a book.
-#[derive(Drop)]
+#[derive(Clone, Copy)]
 pub enum BookAnswer {
     WellFormed,
     NotWellFormed,

@@ -1,2 +1,3 @@
 // Which bytes are a well-formed book.
+#![tactic(auto)]
 pub mod check;
