@@ -1,0 +1,42 @@
+use mathlib.Core.Path.{refl, ◌∙◌}
+use Prim.Native.Nat.{◌-◌}
+use native.Mathlib.Omega.{arith}
+use borrow.Author.Rules.{rules}
+use lib.ListN.{length-set}
+use Rattle.tables.proofs.Tabulated.{tab_more, tab_all}
+use Rattle.keccak.specs.Sponge.{byte_of, digest_of}
+use Rattle.keccak.proofs.words.digest.Goals as goal
+
+pub loop-i-init : goal.loop-i-init
+loop-i-init c = (omega arith, refl, refl)
+
+pub offset_bounds-a-i : goal.offset_bounds-a-i
+offset_bounds-a-i c = search rules
+
+pub bounds-a-i : goal.bounds-a-i
+bounds-a-i c = search rules
+
+pub picked-requires : goal.picked-requires
+picked-requires c = search rules
+
+pub bounds-out-i : goal.bounds-out-i
+bounds-out-i c = search rules
+
+pub overflow_step-i : goal.overflow_step-i
+overflow_step-i c = search rules
+
+pub loop-i-smaller : goal.loop-i-smaller
+loop-i-smaller c = search rules
+
+pub loop-i-preserved : goal.loop-i-preserved
+loop-i-preserved c =
+    (
+      omega arith,
+      length-set c.loop-i.out c.loop-i.i c.picked.result ∙ c.loop-i.invariant.1,
+      tab_more (byte_of c.args.t1) c.loop-i.out c.loop-i.i c.picked.result (omega arith) c.loop-i.invariant.2 c.picked.ensures,
+    )
+
+pub returns : goal.returns
+unfolding digest_of
+returns c =
+    tab_all (byte_of c.args.t1) c.loop-i.out c.loop-i.i 32 c.loop-i.invariant.1 (omega arith) c.loop-i.invariant.2

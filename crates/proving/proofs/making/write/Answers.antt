@@ -1,0 +1,31 @@
+-- `proving::making::write` meets its contract: the three pieces fill the buffer.
+use mathlib.Core.Path.{◌≡◌}
+use borrow.Author.Rules.{rules}
+use lib.ListN.{length}
+use Rattle.merkle.proofs.Sisters.{proof_put}
+use Rattle.proving.proofs.making.write.Goals as goal
+
+pub node-segment-requires : goal.node-segment-requires
+node-segment-requires c = search rules
+
+pub slice_bounds-put-end : goal.slice_bounds-put-end
+slice_bounds-put-end c = search rules
+
+pub put-requires : goal.put-requires
+put-requires c = search rules
+
+pub write_sisters-requires : goal.write_sisters-requires
+write_sisters-requires c = search rules
+
+pub put-requires-2 : goal.put-requires-2
+put-requires-2 c = search rules
+
+pub shape_of-proof : goal.shape_of-proof
+shape_of-proof c = search rules
+
+pub returns : goal.returns
+returns c =
+    let x = c.args in
+    let k : length c.node-segment.result ≡ 32 = search rules in
+    proof_put x.prefix.now x.span.now x.«data».now x.index x.proof.now c.node-segment.result c.put.new.0 c.write_sisters.new.1.1.1.0
+    c.put-2.new.0 c.requires.1 k c.requires.0 c.node-segment.ensures c.put.ensures c.write_sisters.ensures.proof_len c.write_sisters.ensures.proof_after c.put-2.ensures

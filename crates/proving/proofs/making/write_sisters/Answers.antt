@@ -1,0 +1,63 @@
+use mathlib.Core.Path.{◌≡◌, sym, ap, subst, ◌∙◌}
+use mathlib.Core.List.{◌++◌, append-nil}
+use Prim.Native.Nat.{ℕ, ◌+◌, ◌*◌, ◌-◌, ◌^◌}
+use native.Mathlib.Nat.{div-le_self}
+use native.Mathlib.Omega.{arith}
+use borrow.Author.Rules.{rules}
+use lib.ListN.{length, take}
+use Rattle.moving.proofs.Edits.{length_placed}
+use Rattle.merkle.specs.Tree.{pad_to}
+use Rattle.merkle.specs.Proof.{sisters}
+use Rattle.merkle.proofs.Sisters.{sister_put, beside_fits}
+use Rattle.proving.proofs.making.write_sisters.Goals as goal
+
+pub loop-level-init : goal.loop-level-init
+unfolding sisters
+loop-level-init c = (omega arith, search rules, sym (append-nil (take 32 c.args.proof.now)))
+
+pub overflow_shr-index : goal.overflow_shr-index
+overflow_shr-index c = search rules
+
+pub beside-requires : goal.beside-requires
+beside-requires c = omega (arith, div-le_self c.args.index (2 ^ c.loop-level.level))
+
+pub node-sister-requires : goal.node-sister-requires
+node-sister-requires c =
+    (omega arith, rw c.beside.ensures (beside_fits c.loop-level.level c.args.index (omega arith) (omega arith)))
+
+pub overflow_mul-level : goal.overflow_mul-level
+overflow_mul-level c = search rules
+
+pub overflow_add-level : goal.overflow_add-level
+overflow_add-level c = search rules
+
+pub slice_bounds-put-end : goal.slice_bounds-put-end
+slice_bounds-put-end c = search rules
+
+pub put-requires : goal.put-requires
+put-requires c = search rules
+
+pub overflow_add-level-in-loop-level : goal.overflow_add-level-in-loop-level
+overflow_add-level-in-loop-level c = search rules
+
+pub loop-level-smaller : goal.loop-level-smaller
+loop-level-smaller c = search rules
+
+pub loop-level-preserved : goal.loop-level-preserved
+loop-level-preserved c =
+    let x = c.args in
+    let k : length c.node-sister.result ≡ 32 = search rules in (
+      omega arith,
+      ap length c.put.ensures ∙ length_placed c.loop-level.proof (32 + 32 * c.loop-level.level) c.node-sister.result ∙ c.loop-level.invariant.1,
+      sister_put x.prefix.now x.index (pad_to 4096 x.«data».now) (take 32 x.proof.now) c.loop-level.proof c.node-sister.result c.put.new.0 c.loop-level.level
+          c.beside.result (omega arith) c.loop-level.invariant.1 k c.loop-level.invariant.2 c.beside.ensures c.node-sister.ensures c.put.ensures,
+    )
+
+pub shape_of-proof : goal.shape_of-proof
+shape_of-proof c = search rules
+
+pub returns : goal.returns
+returns c =
+    let x = c.args in
+    let e : c.loop-level.level ≡ 7 = omega arith in
+    record { proof_len = c.loop-level.invariant.1; proof_after = subst (λ (k : ℕ). take (32 + 32 * k) c.loop-level.proof ≡ take 32 x.proof.now ++ sisters x.prefix.now x.index (pad_to 4096 x.«data».now) 0 k) e c.loop-level.invariant.2 }

@@ -1,0 +1,61 @@
+-- `tree::root_of` meets its contract: the table serves for all that the part lacks.
+use mathlib.Core.Path.{◌≡◌, refl, sym, ap, ◌∙◌}
+use Prim.Native.Nat.{◌≤◌, ◌-◌, min}
+use native.Mathlib.Omega.{arith}
+use borrow.Author.Tests.{lt-ltb}
+use borrow.Author.Rules.{rules}
+use lib.ListN.{length, take, length-take}
+use Rattle.merkle.specs.Tree.{width, root}
+use Rattle.merkle.proofs.Stretch.{pad_cut}
+use Rattle.merkle.proofs.Zeros.{width_most, zeros_fewer}
+use Rattle.tree.specs.Root.{root_of}
+use Rattle.tree.proofs.Within.{root_within}
+use Rattle.tree.proofs.root_of.Goals as goal
+
+pub returns-then-level-gt7 : goal.returns-then-level-gt7
+unfolding root_of
+returns-then-level-gt7 c = rw (lt-ltb _ _ c.if-level-gt7.true)
+
+pub width-whole-requires : goal.width-whole-requires
+width-whole-requires c = search rules
+
+pub lesser-end-requires : goal.lesser-end-requires
+lesser-end-requires c = search rules
+
+pub overflow_sub-whole : goal.overflow_sub-whole
+overflow_sub-whole c = search rules
+
+pub slice_bounds-zero_roots-end : goal.slice_bounds-zero_roots-end
+slice_bounds-zero_roots-end c = search rules
+
+pub zero_roots-requires : goal.zero_roots-requires
+zero_roots-requires c =
+    (omega (arith, width_most c.args.level c.if-level-gt7.false), refl)
+
+pub slice_bounds-root-count : goal.slice_bounds-root-count
+slice_bounds-root-count c = search rules
+
+pub slice_bounds-root-start : goal.slice_bounds-root-start
+slice_bounds-root-start c = search rules
+
+pub slice_bounds-root-end : goal.slice_bounds-root-end
+slice_bounds-root-end c = search rules
+
+pub slice_bounds-root-end-2 : goal.slice_bounds-root-end-2
+slice_bounds-root-end-2 c = search rules
+
+pub root-requires : goal.root-requires
+root-requires c =
+    let x = c.args in
+    let most : width x.level - length (take (c.lesser-end.result - 0) x.part.now) ≤ c.width-whole.result - c.lesser-end.result = simp length-take (omega arith) in (
+      (c.if-level-gt7.false, simp length-take (omega arith), c.zero_roots.ensures.0),
+      zeros_fewer x.prefix.now _ _ c.zero_roots.new.1.1.0 most c.zero_roots.ensures.1,
+    )
+
+pub returns : goal.returns
+returns c =
+    let x = c.args in
+    let p = x.prefix.now in
+    let s = x.part.now in
+    let cut : c.lesser-end.result ≡ min (length s) (width x.level) = c.lesser-end.ensures ∙ ap (min (length s)) c.width-whole.ensures in
+    c.root.ensures ∙ ap (root p x.level) (pad_cut (width x.level) s c.lesser-end.result cut) ∙ sym (root_within p x.level s c.if-level-gt7.false)

@@ -1,0 +1,74 @@
+use mathlib.Core.Path.{◌≡◌, refl, sym, ap, ap₂, subst, ◌∙◌}
+use mathlib.Core.List.{List, ◌++◌}
+use Prim.Native.Nat.{ℕ, suc, ◌≤◌, ◌-◌, ◌+◌, ◌*◌}
+use native.Mathlib.Numerals.{add-one}
+use native.Mathlib.Omega.{arith}
+use borrow.Author.Rules.{rules}
+use lib.ListN.{length, take, drop}
+use Rattle.moving.proofs.Edits.{length_placed}
+use Rattle.merkle.specs.Tree.{width, hash}
+use Rattle.merkle.proofs.Halves.{width_suc}
+use Rattle.merkle.proofs.Zeros.{Rows, rows_none, rows_more, rows_all, width_tells}
+use Rattle.tree.proofs.zero_roots.Goals as goal
+
+pub loop-next-init : goal.loop-next-init
+loop-next-init c =
+    (omega arith, ap length c.requires.1, refl, subst (λ (t : List ℕ). Rows c.args.prefix.now 0 t) (sym c.requires.1) (rows_none c.args.prefix.now))
+
+pub overflow_mul-at : goal.overflow_mul-at
+overflow_mul-at c = search rules
+
+pub overflow_add-half : goal.overflow_add-half
+overflow_add-half c = search rules
+
+pub slice_bounds-half-count : goal.slice_bounds-half-count
+slice_bounds-half-count c = search rules
+
+pub slice_bounds-half-start : goal.slice_bounds-half-start
+slice_bounds-half-start c = search rules
+
+pub slice_bounds-half-end : goal.slice_bounds-half-end
+slice_bounds-half-end c = search rules
+
+pub hash-above-requires : goal.hash-above-requires
+hash-above-requires c = search rules
+
+pub overflow_add-at : goal.overflow_add-at
+overflow_add-at c = search rules
+
+pub slice_bounds-put-end : goal.slice_bounds-put-end
+slice_bounds-put-end c = search rules
+
+pub put-requires : goal.put-requires
+put-requires c = search rules
+
+pub overflow_add-level : goal.overflow_add-level
+overflow_add-level c = search rules
+
+pub overflow_add-next : goal.overflow_add-next
+overflow_add-next c = search rules
+
+pub loop-next-smaller : goal.loop-next-smaller
+loop-next-smaller c =
+    omega (arith, width_tells (suc c.loop-next.level) 7 (omega arith))
+
+pub loop-next-preserved : goal.loop-next-preserved
+loop-next-preserved c =
+    let x = c.args in
+    let k : length c.hash-above.result ≡ 32 = search rules in
+    let up : suc c.loop-next.level ≤ 7 = width_tells (suc c.loop-next.level) 7 (omega arith) in
+    let n : 32 * c.loop-next.level + 32 - 32 * c.loop-next.level ≡ 32 = omega arith in (
+      omega arith,
+      ap length c.put.ensures ∙ length_placed c.loop-next.zeros (32 * c.loop-next.level + 32) c.hash-above.result ∙ c.loop-next.invariant.1,
+      ap₂ ◌+◌ c.loop-next.invariant.2 c.loop-next.invariant.2 ∙ sym (width_suc (suc c.loop-next.level)) ∙ ap (λ (m : ℕ). width (suc m)) (sym (add-one c.loop-next.level)),
+      rows_more x.prefix.now c.loop-next.level c.loop-next.zeros c.hash-above.result c.put.new.0 (omega arith) k c.loop-next.invariant.3
+          (c.hash-above.ensures ∙ ap (λ (m : ℕ). hash x.prefix.now (take m (drop (32 * c.loop-next.level) c.loop-next.zeros) ++ take m (drop (32 * c.loop-next.level) c.loop-next.zeros))) n) c.put.ensures,
+    )
+
+pub shape_of-zeros : goal.shape_of-zeros
+shape_of-zeros c = search rules
+
+pub returns : goal.returns
+returns c =
+    let x = c.args in
+    (c.loop-next.invariant.1, rows_all x.prefix.now c.loop-next.level x.lack c.loop-next.zeros (omega arith) c.loop-next.invariant.3)
