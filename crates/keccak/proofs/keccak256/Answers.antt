@@ -1,18 +1,8 @@
 -- `keccak::keccak256` meets its contract.
-use borrow.Author.Rules.{rules}
 use mathlib.Core.List.{[]}
 use Rattle.octets.proofs.Bytes.{bytes_known}
 use Rattle.keccak.proofs.Theorems.{holds_new, holds_absorb, holds_finish}
 use Rattle.keccak.proofs.keccak256.Goals as goal
-
-pub new-requires : goal.new-requires
-new-requires c = search rules
-
-pub absorb-requires : goal.absorb-requires
-absorb-requires c = search rules
-
-pub finish-requires : goal.finish-requires
-finish-requires c = search rules
 
 pub returns : goal.returns
 returns c =

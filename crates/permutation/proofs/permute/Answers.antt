@@ -1,7 +1,6 @@
 use mathlib.Core.Path.{◌≡◌, refl, ap, ◌∙◌}
 use Prim.Native.Nat.{ℕ, ◌-◌}
 use native.Mathlib.Omega.{arith}
-use borrow.Author.Rules.{rules}
 use lib.ListN.{get_or}
 use mathlib.Core.List.{List}
 use Rattle.tables.specs.Rules.{RC}
@@ -10,27 +9,9 @@ use Rattle.permutation.specs.Permutation.{rounds, permute}
 use Rattle.permutation.proofs.Rounds.{one_more}
 use Rattle.permutation.proofs.permute.Goals as goal
 
-pub round_constants-table-requires : goal.round_constants-table-requires
-round_constants-table-requires c = search rules
-
 pub loop-i-init : goal.loop-i-init
 unfolding rounds
 loop-i-init c = (omega arith, refl)
-
-pub offset_bounds-table-i : goal.offset_bounds-table-i
-offset_bounds-table-i c = search rules
-
-pub bounds-table-i : goal.bounds-table-i
-bounds-table-i c = search rules
-
-pub round-b-requires : goal.round-b-requires
-round-b-requires c = search rules
-
-pub overflow_step-i : goal.overflow_step-i
-overflow_step-i c = search rules
-
-pub loop-i-smaller : goal.loop-i-smaller
-loop-i-smaller c = search rules
 
 pub loop-i-preserved : goal.loop-i-preserved
 loop-i-preserved c =

@@ -1,26 +1,10 @@
 -- `tree::hash` meets its contract: the prefix and the two parts, absorbed one after the other, are the message.
 use mathlib.Core.Path.{ap, ◌∙◌}
 use mathlib.Core.List.{[], ◌++◌, append_assoc}
-use borrow.Author.Rules.{rules}
 use Rattle.octets.proofs.Bytes.{bytes_known, bytes_append}
 use Rattle.keccak.specs.Hash.{keccak256}
 use Rattle.keccak.proofs.Theorems.{holds_new, holds_absorb, holds_finish}
 use Rattle.tree.proofs.hash.Goals as goal
-
-pub new-requires : goal.new-requires
-new-requires c = search rules
-
-pub absorb-requires : goal.absorb-requires
-absorb-requires c = search rules
-
-pub absorb-requires-2 : goal.absorb-requires-2
-absorb-requires-2 c = search rules
-
-pub absorb-requires-3 : goal.absorb-requires-3
-absorb-requires-3 c = search rules
-
-pub finish-requires : goal.finish-requires
-finish-requires c = search rules
 
 pub returns : goal.returns
 returns c =

@@ -3,7 +3,6 @@ use mathlib.Core.Path.{◌≡◌, refl, sym, ap, ◌∙◌}
 use Prim.Native.Nat.{◌≤◌, ◌-◌, min}
 use native.Mathlib.Omega.{arith}
 use borrow.Author.Tests.{lt-ltb}
-use borrow.Author.Rules.{rules}
 use lib.ListN.{length, take, length-take}
 use Rattle.merkle.specs.Tree.{width, root}
 use Rattle.merkle.proofs.Stretch.{pad_cut}
@@ -16,33 +15,9 @@ pub returns-then-level-gt7 : goal.returns-then-level-gt7
 unfolding root_of
 returns-then-level-gt7 c = rw (lt-ltb _ _ c.if-level-gt7.true)
 
-pub width-whole-requires : goal.width-whole-requires
-width-whole-requires c = search rules
-
-pub lesser-end-requires : goal.lesser-end-requires
-lesser-end-requires c = search rules
-
-pub overflow_sub-whole : goal.overflow_sub-whole
-overflow_sub-whole c = search rules
-
-pub slice_bounds-zero_roots-end : goal.slice_bounds-zero_roots-end
-slice_bounds-zero_roots-end c = search rules
-
 pub zero_roots-requires : goal.zero_roots-requires
 zero_roots-requires c =
     (omega (arith, width_most c.args.level c.if-level-gt7.false), refl)
-
-pub slice_bounds-root-count : goal.slice_bounds-root-count
-slice_bounds-root-count c = search rules
-
-pub slice_bounds-root-start : goal.slice_bounds-root-start
-slice_bounds-root-start c = search rules
-
-pub slice_bounds-root-end : goal.slice_bounds-root-end
-slice_bounds-root-end c = search rules
-
-pub slice_bounds-root-end-2 : goal.slice_bounds-root-end-2
-slice_bounds-root-end-2 c = search rules
 
 pub root-requires : goal.root-requires
 root-requires c =

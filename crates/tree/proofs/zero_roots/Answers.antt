@@ -15,39 +15,6 @@ pub loop-next-init : goal.loop-next-init
 loop-next-init c =
     (omega arith, ap length c.requires.1, refl, subst (λ (t : List ℕ). Rows c.args.prefix.now 0 t) (sym c.requires.1) (rows_none c.args.prefix.now))
 
-pub overflow_mul-at : goal.overflow_mul-at
-overflow_mul-at c = search rules
-
-pub overflow_add-half : goal.overflow_add-half
-overflow_add-half c = search rules
-
-pub slice_bounds-half-count : goal.slice_bounds-half-count
-slice_bounds-half-count c = search rules
-
-pub slice_bounds-half-start : goal.slice_bounds-half-start
-slice_bounds-half-start c = search rules
-
-pub slice_bounds-half-end : goal.slice_bounds-half-end
-slice_bounds-half-end c = search rules
-
-pub hash-above-requires : goal.hash-above-requires
-hash-above-requires c = search rules
-
-pub overflow_add-at : goal.overflow_add-at
-overflow_add-at c = search rules
-
-pub slice_bounds-put-end : goal.slice_bounds-put-end
-slice_bounds-put-end c = search rules
-
-pub put-requires : goal.put-requires
-put-requires c = search rules
-
-pub overflow_add-level : goal.overflow_add-level
-overflow_add-level c = search rules
-
-pub overflow_add-next : goal.overflow_add-next
-overflow_add-next c = search rules
-
 pub loop-next-smaller : goal.loop-next-smaller
 loop-next-smaller c =
     omega (arith, width_tells (suc c.loop-next.level) 7 (omega arith))
@@ -64,9 +31,6 @@ loop-next-preserved c =
       rows_more x.prefix.now c.loop-next.level c.loop-next.zeros c.hash-above.result c.put.new.0 (omega arith) k c.loop-next.invariant.3
           (c.hash-above.ensures ∙ ap (λ (m : ℕ). hash x.prefix.now (take m (drop (32 * c.loop-next.level) c.loop-next.zeros) ++ take m (drop (32 * c.loop-next.level) c.loop-next.zeros))) n) c.put.ensures,
     )
-
-pub shape_of-zeros : goal.shape_of-zeros
-shape_of-zeros c = search rules
 
 pub returns : goal.returns
 returns c =

@@ -1,26 +1,16 @@
 -- `chunk::addresses::address_over` meets its contract.
 use mathlib.Core.Path.{◌∙◌}
 use borrow.Author.Tests.{eq-eqb, ne_eqb, lt-ltb, le-ltb}
-use borrow.Author.Rules.{rules}
 use Rattle.chunk.specs.Answer.{addressed}
 use Rattle.chunk.proofs.addresses.address_over.Goals as goal
-
-pub refused-requires : goal.refused-requires
-refused-requires c = search rules
 
 pub returns-then-span-ne8 : goal.returns-then-span-ne8
 unfolding addressed
 returns-then-span-ne8 c = c.refused.ensures ∙ rw (ne_eqb _ _ c.if-span-ne8.true)
 
-pub refused-requires-then-data-gt4096 : goal.refused-requires-then-data-gt4096
-refused-requires-then-data-gt4096 c = search rules
-
 pub returns-then-data-gt4096 : goal.returns-then-data-gt4096
 unfolding addressed
 returns-then-data-gt4096 c = c.refused-then-data-gt4096.ensures ∙ rw (eq-eqb _ _ c.if-span-ne8.false, lt-ltb _ _ c.if-data-gt4096.true)
-
-pub digest-requires : goal.digest-requires
-digest-requires c = search rules
 
 pub returns : goal.returns
 unfolding addressed

@@ -1,19 +1,12 @@
 -- `chunk::addresses::anchored_address` meets its contract.
 use mathlib.Core.Path.{◌∙◌}
 use borrow.Author.Tests.{eq-eqb, ne_eqb}
-use borrow.Author.Rules.{rules}
 use Rattle.chunk.specs.Answer.{anchored_addressed}
 use Rattle.chunk.proofs.addresses.anchored_address.Goals as goal
-
-pub refused-requires : goal.refused-requires
-refused-requires c = search rules
 
 pub returns-then-anchor-ne32 : goal.returns-then-anchor-ne32
 unfolding anchored_addressed
 returns-then-anchor-ne32 c = c.refused.ensures ∙ rw (ne_eqb _ _ c.if-anchor-ne32.true)
-
-pub address_over-requires : goal.address_over-requires
-address_over-requires c = search rules
 
 pub returns : goal.returns
 unfolding anchored_addressed

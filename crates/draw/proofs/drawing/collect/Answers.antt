@@ -1,7 +1,6 @@
 use mathlib.Core.Path.{◌≡◌, sym, ap, ◌∙◌}
 use Prim.Native.Nat.{◌+◌, ◌-◌, ◌<◌}
 use native.Mathlib.Omega.{arith}
-use borrow.Author.Rules.{rules}
 use borrow.Author.Tests.{not-true, not-false}
 use lib.ListN.{length}
 use Rattle.book.specs.Layout.{count_in}
@@ -10,49 +9,16 @@ use Rattle.book.proofs.Records.{record_length_lem}
 use Rattle.draw.proofs.Collecting.{Walked, walk_starts, walk_turn, walk_refused, walk_left, walk_few, walk_ends}
 use Rattle.draw.proofs.drawing.collect.Goals as goal
 
-pub count-records-requires : goal.count-records-requires
-count-records-requires c = search rules
-
 pub loop-i-init : goal.loop-i-init
 loop-i-init c =
     let a = c.args in
     walk_starts a.book.now a.shelf.now a.anchor.now c.count-records.result a.best.now (c.count-records.ensures ∙ count_there a.book.now (omega arith)) c.requires.1.1
-
-pub record_at-record-requires : goal.record_at-record-requires
-record_at-record-requires c = search rules
-
-pub slice_bounds-take_cell-count : goal.slice_bounds-take_cell-count
-slice_bounds-take_cell-count c = search rules
-
-pub slice_bounds-take_cell-start : goal.slice_bounds-take_cell-start
-slice_bounds-take_cell-start c = search rules
-
-pub slice_bounds-take_cell-end : goal.slice_bounds-take_cell-end
-slice_bounds-take_cell-end c = search rules
-
-pub slice_bounds-take_cell-count-in-loop-i : goal.slice_bounds-take_cell-count-in-loop-i
-slice_bounds-take_cell-count-in-loop-i c = search rules
-
-pub slice_bounds-take_cell-start-in-loop-i : goal.slice_bounds-take_cell-start-in-loop-i
-slice_bounds-take_cell-start-in-loop-i c = search rules
 
 pub slice_bounds-take_cell-end-in-loop-i : goal.slice_bounds-take_cell-end-in-loop-i
 slice_bounds-take_cell-end-in-loop-i c =
     let there : c.loop-i.i < count_in c.args.book.now = omega (arith, c.loop-i.invariant.counted) in
     let long : length c.record_at-record.result.now ≡ 145 = ap length c.record_at-record.ensures ∙ record_length_lem c.args.book.now c.loop-i.i there (omega arith) in
     omega (arith, long)
-
-pub overflow_cast-i : goal.overflow_cast-i
-overflow_cast-i c = search rules
-
-pub take_cell-taken-requires : goal.take_cell-taken-requires
-take_cell-taken-requires c = search rules
-
-pub is_done-requires : goal.is_done-requires
-is_done-requires c = search rules
-
-pub shape_of-best-then-not-is_done : goal.shape_of-best-then-not-is_done
-shape_of-best-then-not-is_done c = search rules
 
 pub returns-then-not-is_done : goal.returns-then-not-is_done
 returns-then-not-is_done c =
@@ -65,35 +31,20 @@ overflow_add-at c =
     let turned : let a = c.args in Walked a.book.now a.shelf.now a.anchor.now c.count-records.result c.take_cell-taken.new.1.1.1.1.0 (c.loop-i.at + c.take_cell-taken.result.size) c.take_cell-taken.result.held (c.loop-i.i + 1) = let a = c.args in walk_turn a.book.now a.shelf.now a.anchor.now c.count-records.result c.loop-i.best c.loop-i.at c.loop-i.held c.loop-i.i c.loop-i.invariant (omega arith) c.take_cell-taken.result _ _ c.record_at-record.ensures c.take_cell-taken.ensures (sym c.is_done_lem.ensures ∙ not-false _ c.if-not-is_done.false) in
     omega (arith, turned.inside)
 
-pub overflow_add-i : goal.overflow_add-i
-overflow_add-i c = search rules
-
-pub loop-i-smaller : goal.loop-i-smaller
-loop-i-smaller c = search rules
-
 pub loop-i-preserved : goal.loop-i-preserved
 loop-i-preserved c =
     let turned : let a = c.args in Walked a.book.now a.shelf.now a.anchor.now c.count-records.result c.take_cell-taken.new.1.1.1.1.0 (c.loop-i.at + c.take_cell-taken.result.size) c.take_cell-taken.result.held (c.loop-i.i + 1) = let a = c.args in walk_turn a.book.now a.shelf.now a.anchor.now c.count-records.result c.loop-i.best c.loop-i.at c.loop-i.held c.loop-i.i c.loop-i.invariant (omega arith) c.take_cell-taken.result _ _ c.record_at-record.ensures c.take_cell-taken.ensures (sym c.is_done_lem.ensures ∙ not-false _ c.if-not-is_done.false) in
     turned
-
-pub shape_of-best-then-at-shelf : goal.shape_of-best-then-at-shelf
-shape_of-best-then-at-shelf c = search rules
 
 pub returns-then-at-shelf : goal.returns-then-at-shelf
 returns-then-at-shelf c =
     let a = c.args in
     walk_left a.book.now a.shelf.now a.anchor.now c.count-records.result c.loop-i.best c.loop-i.at c.loop-i.held c.loop-i.i c.loop-i.invariant (omega arith) (omega arith)
 
-pub shape_of-best-then-held-lt16 : goal.shape_of-best-then-held-lt16
-shape_of-best-then-held-lt16 c = search rules
-
 pub returns-then-held-lt16 : goal.returns-then-held-lt16
 returns-then-held-lt16 c =
     let a = c.args in
     walk_few a.book.now a.shelf.now a.anchor.now c.count-records.result c.loop-i.best c.loop-i.at c.loop-i.held c.loop-i.i c.loop-i.invariant (omega arith) (omega arith) (omega arith)
-
-pub shape_of-best : goal.shape_of-best
-shape_of-best c = search rules
 
 pub returns : goal.returns
 returns c =

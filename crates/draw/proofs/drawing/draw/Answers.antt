@@ -10,26 +10,11 @@ use Rattle.draw.proofs.Collecting.{is_done_lem}
 use Rattle.draw.proofs.Handing.{refused_lent, handed_on}
 use Rattle.draw.proofs.drawing.draw.Goals as goal
 
-pub lent_answer-lent-requires : goal.lent_answer-lent-requires
-lent_answer-lent-requires c = search rules
-
-pub is_done-requires : goal.is_done-requires
-is_done-requires c = search rules
-
-pub refused-requires : goal.refused-requires
-refused-requires c = search rules
-
-pub shape_of-sample-then-not-is_done : goal.shape_of-sample-then-not-is_done
-shape_of-sample-then-not-is_done c = search rules
-
 pub returns-then-not-is_done : goal.returns-then-not-is_done
 returns-then-not-is_done c =
     let a = c.args in
     let given = refused_lent a.book.now a.shelf.now a.anchor.now a.sample.now c.lent_answer-lent.result c.lent_answer-lent.ensures (sym c.is_done_lem.ensures ∙ not-true _ c.if-not-is_done.true) in
     record { result = c.refused.ensures ∙ given.0; bytes = given.1 }
-
-pub slice_bounds-collect-end : goal.slice_bounds-collect-end
-slice_bounds-collect-end c = search rules
 
 pub collect-collected-requires : goal.collect-collected-requires
 collect-collected-requires c =
@@ -37,15 +22,6 @@ collect-collected-requires c =
     let a = c.args in
     let w = lent_done a.book.now a.anchor.now a.sample.now lent in
     (formed_long a.book.now w.formed, (w.anchor32, search rules))
-
-pub slice_bounds-commit-end : goal.slice_bounds-commit-end
-slice_bounds-commit-end c = search rules
-
-pub commit-commitment-requires : goal.commit-commitment-requires
-commit-commitment-requires c = search rules
-
-pub shape_of-sample : goal.shape_of-sample
-shape_of-sample c = search rules
 
 pub returns : goal.returns
 returns c =

@@ -1,25 +1,12 @@
 -- Each refusal is that of the part that fails.
 use mathlib.Core.Path.{sym, ◌∙◌}
-use borrow.Author.Rules.{rules}
 use Rattle.draw.proofs.Lending.{not_formed, is_formed_lem, lent_bad, lent_overfull, lent_anchor, lent_sample, lent_fine}
 use Rattle.draw.proofs.drawing.lent_answer.Goals as goal
-
-pub check_book-requires : goal.check_book-requires
-check_book-requires c = search rules
-
-pub enum_told-1 : goal.enum_told-1
-enum_told-1 c = search rules
 
 pub returns-in-NotWellFormed : goal.returns-in-NotWellFormed
 returns-in-NotWellFormed c =
     let a = c.args in
     lent_bad a.book.now a.anchor.now a.sample.now (not_formed a.book.now (sym c.check_book.ensures ∙ c.in-NotWellFormed.is))
-
-pub enum_told-in-WellFormed : goal.enum_told-in-WellFormed
-enum_told-in-WellFormed c = search rules
-
-pub overfull-requires : goal.overfull-requires
-overfull-requires c = search rules
 
 pub returns-then-overfull : goal.returns-then-overfull
 returns-then-overfull c =

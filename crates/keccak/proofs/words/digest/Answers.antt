@@ -1,7 +1,6 @@
 use mathlib.Core.Path.{refl, ◌∙◌}
 use Prim.Native.Nat.{◌-◌}
 use native.Mathlib.Omega.{arith}
-use borrow.Author.Rules.{rules}
 use lib.ListN.{length-set}
 use Rattle.tables.proofs.Tabulated.{tab_more, tab_all}
 use Rattle.keccak.specs.Sponge.{byte_of, digest_of}
@@ -9,24 +8,6 @@ use Rattle.keccak.proofs.words.digest.Goals as goal
 
 pub loop-i-init : goal.loop-i-init
 loop-i-init c = (omega arith, refl, refl)
-
-pub offset_bounds-a-i : goal.offset_bounds-a-i
-offset_bounds-a-i c = search rules
-
-pub bounds-a-i : goal.bounds-a-i
-bounds-a-i c = search rules
-
-pub picked-requires : goal.picked-requires
-picked-requires c = search rules
-
-pub bounds-out-i : goal.bounds-out-i
-bounds-out-i c = search rules
-
-pub overflow_step-i : goal.overflow_step-i
-overflow_step-i c = search rules
-
-pub loop-i-smaller : goal.loop-i-smaller
-loop-i-smaller c = search rules
 
 pub loop-i-preserved : goal.loop-i-preserved
 loop-i-preserved c =

@@ -1,7 +1,6 @@
 -- `proving::making::make_anchored_proof` meets its contract.
 use mathlib.Core.Path.{refl, ◌∙◌}
 use borrow.Author.Tests.{eq-eqb, ne_eqb}
-use borrow.Author.Rules.{rules}
 use Rattle.proving.specs.Answer.{anchored_made}
 use Rattle.proving.proofs.making.make_anchored_proof.Goals as goal
 
@@ -9,12 +8,6 @@ pub returns-then-anchor-ne32 : goal.returns-then-anchor-ne32
 unfolding anchored_made
 returns-then-anchor-ne32 c =
     record { value = rw (ne_eqb _ _ c.if-anchor-ne32.true); proof_after = refl }
-
-pub make_over-requires : goal.make_over-requires
-make_over-requires c = search rules
-
-pub shape_of-proof : goal.shape_of-proof
-shape_of-proof c = search rules
 
 pub returns : goal.returns
 unfolding anchored_made

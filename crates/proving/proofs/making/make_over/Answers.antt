@@ -1,7 +1,6 @@
 -- `proving::making::make_over` meets its contract.
 use mathlib.Core.Path.{refl}
 use borrow.Author.Tests.{eq-eqb, ne_eqb, lt-ltb, le-ltb}
-use borrow.Author.Rules.{rules}
 use Rattle.proving.specs.Answer.{made}
 use Rattle.proving.proofs.making.make_over.Goals as goal
 
@@ -24,12 +23,6 @@ pub returns-then-index-gt127 : goal.returns-then-index-gt127
 unfolding made
 returns-then-index-gt127 c =
     record { value = rw (eq-eqb _ _ c.if-span-ne8.false, eq-eqb _ _ c.if-proof-ne264.false, le-ltb _ _ c.if-data-gt4096.false, lt-ltb _ _ c.if-index-gt127.true); proof_after = refl }
-
-pub write-requires : goal.write-requires
-write-requires c = search rules
-
-pub shape_of-proof : goal.shape_of-proof
-shape_of-proof c = search rules
 
 pub returns : goal.returns
 unfolding made

@@ -2,7 +2,6 @@
 use mathlib.Core.Path.{◌≡◌, ap, ◌∙◌}
 use Prim.Native.Nat.{ℕ, ◌-◌, ◌*◌, ◌^◌, ◌%◌, min}
 use native.Mathlib.Omega.{arith}
-use borrow.Author.Rules.{rules}
 use lib.ListN.{length, take, drop}
 use lib.Pow.{shl_exact}
 use Rattle.merkle.specs.Tree.{width, root}
@@ -10,30 +9,12 @@ use Rattle.merkle.proofs.Stretch.{pad_from}
 use Rattle.tree.proofs.Within.{root_within}
 use Rattle.proving.proofs.making.node.Goals as goal
 
-pub overflow_shl-level : goal.overflow_shl-level
-overflow_shl-level c = search rules
-
 pub overflow_mul-n : goal.overflow_mul-n
 overflow_mul-n c =
     let x = c.args in
     let w : (32 * 2 ^ x.level) % 2 ^ 64 ≡ width x.level = shl_exact 6 x.level 64 (omega arith) (omega arith) in
     let e : x.n * ((32 * 2 ^ x.level) % 2 ^ 64) ≡ x.n * width x.level = ap (λ (k : ℕ). x.n * k) w in
     record { fits = omega arith }
-
-pub lesser-start-requires : goal.lesser-start-requires
-lesser-start-requires c = search rules
-
-pub slice_bounds-root_of-count : goal.slice_bounds-root_of-count
-slice_bounds-root_of-count c = search rules
-
-pub slice_bounds-root_of-start : goal.slice_bounds-root_of-start
-slice_bounds-root_of-start c = search rules
-
-pub slice_bounds-root_of-end : goal.slice_bounds-root_of-end
-slice_bounds-root_of-end c = search rules
-
-pub root_of-requires : goal.root_of-requires
-root_of-requires c = search rules
 
 pub returns : goal.returns
 returns c =

@@ -5,24 +5,6 @@ use lib.ListN.{length}
 use Rattle.merkle.proofs.Sisters.{proof_put}
 use Rattle.proving.proofs.making.write.Goals as goal
 
-pub node-segment-requires : goal.node-segment-requires
-node-segment-requires c = search rules
-
-pub slice_bounds-put-end : goal.slice_bounds-put-end
-slice_bounds-put-end c = search rules
-
-pub put-requires : goal.put-requires
-put-requires c = search rules
-
-pub write_sisters-requires : goal.write_sisters-requires
-write_sisters-requires c = search rules
-
-pub put-requires-2 : goal.put-requires-2
-put-requires-2 c = search rules
-
-pub shape_of-proof : goal.shape_of-proof
-shape_of-proof c = search rules
-
 pub returns : goal.returns
 returns c =
     let x = c.args in

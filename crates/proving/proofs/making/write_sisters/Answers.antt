@@ -15,33 +15,12 @@ pub loop-level-init : goal.loop-level-init
 unfolding sisters
 loop-level-init c = (omega arith, search rules, sym (append-nil (take 32 c.args.proof.now)))
 
-pub overflow_shr-index : goal.overflow_shr-index
-overflow_shr-index c = search rules
-
 pub beside-requires : goal.beside-requires
 beside-requires c = omega (arith, div-le_self c.args.index (2 ^ c.loop-level.level))
 
 pub node-sister-requires : goal.node-sister-requires
 node-sister-requires c =
     (omega arith, rw c.beside.ensures (beside_fits c.loop-level.level c.args.index (omega arith) (omega arith)))
-
-pub overflow_mul-level : goal.overflow_mul-level
-overflow_mul-level c = search rules
-
-pub overflow_add-level : goal.overflow_add-level
-overflow_add-level c = search rules
-
-pub slice_bounds-put-end : goal.slice_bounds-put-end
-slice_bounds-put-end c = search rules
-
-pub put-requires : goal.put-requires
-put-requires c = search rules
-
-pub overflow_add-level-in-loop-level : goal.overflow_add-level-in-loop-level
-overflow_add-level-in-loop-level c = search rules
-
-pub loop-level-smaller : goal.loop-level-smaller
-loop-level-smaller c = search rules
 
 pub loop-level-preserved : goal.loop-level-preserved
 loop-level-preserved c =
@@ -52,9 +31,6 @@ loop-level-preserved c =
       sister_put x.prefix.now x.index (pad_to 4096 x.«data».now) (take 32 x.proof.now) c.loop-level.proof c.node-sister.result c.put.new.0 c.loop-level.level
           c.beside.result (omega arith) c.loop-level.invariant.1 k c.loop-level.invariant.2 c.beside.ensures c.node-sister.ensures c.put.ensures,
     )
-
-pub shape_of-proof : goal.shape_of-proof
-shape_of-proof c = search rules
 
 pub returns : goal.returns
 returns c =

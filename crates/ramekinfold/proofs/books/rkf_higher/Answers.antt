@@ -1,20 +1,7 @@
 -- `ramekinfold::rkf_higher` meets its contract.
 use mathlib.Core.Path.{ap, sym, ◌∙◌}
 use Rattle.ramekinfold.specs.Part.{of_choice}
-use borrow.Author.Rules.{rules}
 use Rattle.ramekinfold.proofs.books.rkf_higher.Goals as goal
-
-pub choose-requires : goal.choose-requires
-choose-requires c = search rules
-
-pub enum_told-1 : goal.enum_told-1
-enum_told-1 c = search rules
-
-pub enum_told-in-Second : goal.enum_told-in-Second
-enum_told-in-Second c = search rules
-
-pub enum_told-in-Neither : goal.enum_told-in-Neither
-enum_told-in-Neither c = search rules
 
 pub returns-in-First : goal.returns-in-First
 returns-in-First c = ap of_choice (sym c.in-First.is ∙ c.choose.ensures)

@@ -4,17 +4,7 @@ use Rattle.proving.specs.declared.making.ProofMade.{ProofMade}
 use mathlib.Core.List.{[]}
 use Rattle.proving.specs.Answer.{made_number, written}
 use Rattle.merkle.specs.Proof.{proof_of}
-use borrow.Author.Rules.{rules}
 use Rattle.ramekinfold.proofs.chunks.rkf_make_proof.Goals as goal
-
-pub make_proof-answer-requires : goal.make_proof-answer-requires
-make_proof-answer-requires c = search rules
-
-pub number-requires : goal.number-requires
-number-requires c = search rules
-
-pub shape_of-proof : goal.shape_of-proof
-shape_of-proof c = search rules
 
 pub returns : goal.returns
 returns c =

@@ -4,14 +4,7 @@ use mathlib.Core.Path.{ap₂}
 use Prim.Native.Nat.{ℕ}
 use lib.ListN.{length}
 use Rattle.ramekinfold.specs.Part.{part}
-use borrow.Author.Rules.{rules}
 use Rattle.ramekinfold.proofs.chunks.rkf_segment.Goals as goal
-
-pub segment_start-start-requires : goal.segment_start-start-requires
-segment_start-start-requires c = search rules
-
-pub segment-found-requires : goal.segment-found-requires
-segment-found-requires c = search rules
 
 pub returns : goal.returns
 returns c = ap₂ (λ (n : ℕ) (l : List ℕ). part n (length l)) c.segment_start-start.ensures c.segment-found.ensures.result_value

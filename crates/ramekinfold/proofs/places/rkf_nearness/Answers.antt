@@ -2,17 +2,7 @@
 use mathlib.Core.Path.{ap, ap₂, ◌∙◌}
 use Rattle.nearness.specs.Near.{near_number, bits_in}
 use Rattle.ramekinfold.specs.Numbered.{numbered}
-use borrow.Author.Rules.{rules}
 use Rattle.ramekinfold.proofs.places.rkf_nearness.Goals as goal
-
-pub nearness-near-requires : goal.nearness-near-requires
-nearness-near-requires c = search rules
-
-pub number-requires : goal.number-requires
-number-requires c = search rules
-
-pub bits-requires : goal.bits-requires
-bits-requires c = search rules
 
 pub returns : goal.returns
 returns c =

@@ -26,45 +26,6 @@ twice sample best i once after e f =
 pub loop-i-init : goal.loop-i-init
 loop-i-init c = (omega arith, (search rules, sym (ap written (pieces_none 64 c.args.best.now) ∙ written_nil)))
 
-pub overflow_mul-at : goal.overflow_mul-at
-overflow_mul-at c = search rules
-
-pub overflow_add-middle : goal.overflow_add-middle
-overflow_add-middle c = search rules
-
-pub overflow_add-end : goal.overflow_add-end
-overflow_add-end c = search rules
-
-pub slice_bounds-put-count : goal.slice_bounds-put-count
-slice_bounds-put-count c = search rules
-
-pub slice_bounds-put-start : goal.slice_bounds-put-start
-slice_bounds-put-start c = search rules
-
-pub slice_bounds-put-end : goal.slice_bounds-put-end
-slice_bounds-put-end c = search rules
-
-pub put-requires : goal.put-requires
-put-requires c = search rules
-
-pub slice_bounds-put-count-in-loop-i : goal.slice_bounds-put-count-in-loop-i
-slice_bounds-put-count-in-loop-i c = search rules
-
-pub slice_bounds-put-start-in-loop-i : goal.slice_bounds-put-start-in-loop-i
-slice_bounds-put-start-in-loop-i c = search rules
-
-pub slice_bounds-put-end-in-loop-i : goal.slice_bounds-put-end-in-loop-i
-slice_bounds-put-end-in-loop-i c = search rules
-
-pub put-requires-in-loop-i : goal.put-requires-in-loop-i
-put-requires-in-loop-i c = search rules
-
-pub overflow_add-i : goal.overflow_add-i
-overflow_add-i c = search rules
-
-pub loop-i-smaller : goal.loop-i-smaller
-loop-i-smaller c = search rules
-
 pub loop-i-preserved : goal.loop-i-preserved
 loop-i-preserved c =
     let a = c.args in

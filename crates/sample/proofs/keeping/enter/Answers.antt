@@ -1,7 +1,6 @@
 -- Nothing where a guard fails; past them held already, past the sixteenth, or put in its place.
 use mathlib.Core.Path.{refl, subst}
 use native.Mathlib.Omega.{arith}
-use borrow.Author.Rules.{rules}
 use Rattle.octets.specs.Pieces.{pieces}
 use Rattle.sample.specs.declared.keeping.Found.{Found}
 use Rattle.sample.specs.Inside.{Belongs}
@@ -24,18 +23,6 @@ returns-then-held-gt16 c =
     let a = c.args in
     too_many a.pair.now a.held a.best.now c.if-best-ne1024.false c.if-pair-ne64.false (omega arith)
 
-pub place_of-requires : goal.place_of-requires
-place_of-requires c = search rules
-
-pub enum_known-place : goal.enum_known-place
-enum_known-place c = search rules
-
-pub enum_told-1 : goal.enum_told-1
-enum_told-1 c = search rules
-
-pub shape_of-best-in_default : goal.shape_of-best-in_default
-shape_of-best-in_default c = search rules
-
 pub returns-in_default : goal.returns-in_default
 returns-in_default c =
     let a = c.args in
@@ -43,33 +30,12 @@ returns-in_default c =
     entered_is a.pair.now a.held a.best.now c.if-best-ne1024.false c.if-pair-ne64.false (omega arith) a.held a.best.now
     (enter_held a.best.now a.pair.now a.held (omega arith) belongs.1) refl
 
-pub shape_of-best-then-place-gt15 : goal.shape_of-best-then-place-gt15
-shape_of-best-then-place-gt15 c = search rules
-
 pub returns-then-place-gt15 : goal.returns-then-place-gt15
 returns-then-place-gt15 c =
     let a = c.args in
     let belongs = subst (λ (r : Found). Belongs r a.pair.now (pieces 64 a.held a.best.now)) c.in-At.is c.place_of.ensures in
     entered_is a.pair.now a.held a.best.now c.if-best-ne1024.false c.if-pair-ne64.false (omega arith) a.held a.best.now
     (enter_past a.best.now a.pair.now a.held c.in-At.place (omega arith) (omega arith) belongs.0 belongs.1) refl
-
-pub lesser-last-requires : goal.lesser-last-requires
-lesser-last-requires c = search rules
-
-pub overflow_mul-place : goal.overflow_mul-place
-overflow_mul-place c = search rules
-
-pub overflow_mul-last : goal.overflow_mul-last
-overflow_mul-last c = search rules
-
-pub insert-requires : goal.insert-requires
-insert-requires c = search rules
-
-pub overflow_add-result : goal.overflow_add-result
-overflow_add-result c = search rules
-
-pub shape_of-best : goal.shape_of-best
-shape_of-best c = search rules
 
 pub returns : goal.returns
 returns c =

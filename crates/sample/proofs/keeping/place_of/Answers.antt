@@ -2,7 +2,6 @@ use mathlib.Core.Path.{◌≡◌, refl, sym, ap, ◌∙◌}
 use mathlib.Core.List.{List}
 use Prim.Native.Nat.{ℕ, ◌+◌, ◌-◌, ◌*◌}
 use native.Mathlib.Omega.{arith}
-use borrow.Author.Rules.{rules}
 use lib.ListN.{take, drop}
 use Rattle.octets.specs.declared.order.Order.{Order}
 use Rattle.octets.specs.declared.order.Order.TheVariants.{Less, Same, More}
@@ -20,50 +19,17 @@ told p s i o v e f =
 pub loop-i-init : goal.loop-i-init
 loop-i-init c = (omega arith, refl)
 
-pub overflow_mul-at : goal.overflow_mul-at
-overflow_mul-at c = search rules
-
-pub overflow_add-end : goal.overflow_add-end
-overflow_add-end c = search rules
-
-pub slice_bounds-compare-count : goal.slice_bounds-compare-count
-slice_bounds-compare-count c = search rules
-
-pub slice_bounds-compare-start : goal.slice_bounds-compare-start
-slice_bounds-compare-start c = search rules
-
-pub slice_bounds-compare-end : goal.slice_bounds-compare-end
-slice_bounds-compare-end c = search rules
-
-pub compare-requires : goal.compare-requires
-compare-requires c = search rules
-
-pub enum_told-1 : goal.enum_told-1
-enum_told-1 c = search rules
-
 pub returns-in-Less : goal.returns-in-Less
 returns-in-Less c =
     let a = c.args in
     let stands = told a.pair.now a.best.now c.loop-i.i c.compare.result Less c.compare.ensures c.in-Less.is in
     (omega (arith, length_pieces 64 a.held a.best.now), found_less a.pair.now a.held a.best.now c.loop-i.i c.loop-i.invariant.1 (omega arith) stands)
 
-pub enum_told-in-Same : goal.enum_told-in-Same
-enum_told-in-Same c = search rules
-
 pub returns-in-Same : goal.returns-in-Same
 returns-in-Same c =
     let a = c.args in
     let stands = told a.pair.now a.best.now c.loop-i.i c.compare.result Same c.compare.ensures c.in-Same.is in
     (omega (arith, length_pieces 64 a.held a.best.now), found_same a.pair.now a.held a.best.now c.loop-i.i c.loop-i.invariant.1 (omega arith) stands)
-
-pub enum_told-in-More : goal.enum_told-in-More
-enum_told-in-More c = search rules
-
-pub overflow_add-i : goal.overflow_add-i
-overflow_add-i c = search rules
-
-pub loop-i-smaller : goal.loop-i-smaller
-loop-i-smaller c = search rules
 
 pub loop-i-preserved : goal.loop-i-preserved
 loop-i-preserved c =

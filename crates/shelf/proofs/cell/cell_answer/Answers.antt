@@ -1,6 +1,5 @@
 -- Refused where there is no length to read; past that as it is judged.
 use native.Mathlib.Omega.{arith}
-use borrow.Author.Rules.{rules}
 use Rattle.shelf.proofs.Cells.{cell_short, size_read}
 use Rattle.shelf.proofs.cell.cell_answer.Goals as goal
 
@@ -9,16 +8,7 @@ returns-then-rest-lt10 c =
     let a = c.args in
     cell_short a.recorded.now a.rest.now (omega arith)
 
-pub read16-size-requires : goal.read16-size-requires
-read16-size-requires c = search rules
-
-pub overflow_cast-size : goal.overflow_cast-size
-overflow_cast-size c = search rules
-
 pub sized_answer-requires : goal.sized_answer-requires
 sized_answer-requires c =
     let a = c.args in
     (omega arith, (size_read a.rest.now c.read16-size.result (omega arith) c.read16-size.ensures, omega arith))
-
-pub returns : goal.returns
-returns c = search rules

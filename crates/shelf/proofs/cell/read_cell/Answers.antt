@@ -1,17 +1,10 @@
 -- Refused as the cell is; past that its size and its pair.
 use mathlib.Core.Bool.{true}
 use mathlib.Core.Path.{◌≡◌, sym, ap, ◌∙◌}
-use borrow.Author.Rules.{rules}
 use borrow.Author.Tests.{not-true, not-false}
 use Rattle.shelf.specs.Read.{is_sound}
 use Rattle.shelf.proofs.Cells.{Whole, cell_sound, wrong_is, sound_is, size_read}
 use Rattle.shelf.proofs.cell.read_cell.Goals as goal
-
-pub cell_answer-answer-requires : goal.cell_answer-answer-requires
-cell_answer-answer-requires c = search rules
-
-pub is_sound-requires : goal.is_sound-requires
-is_sound-requires c = search rules
 
 pub returns-then-not-is_sound : goal.returns-then-not-is_sound
 returns-then-not-is_sound c =
@@ -23,15 +16,6 @@ pair-joined-requires c =
     let sound : is_sound c.cell_answer-answer.result ≡ true = sym c.is_sound_lem.ensures ∙ not-false _ c.if-not-is_sound.false in
     let whole : let a = c.args in Whole a.recorded.now a.rest.now = let a = c.args in cell_sound a.recorded.now a.rest.now (ap is_sound (sym c.cell_answer-answer.ensures) ∙ sound) in
     let there = whole in (there.3, there.1)
-
-pub read16-requires : goal.read16-requires
-read16-requires c = search rules
-
-pub overflow_cast-size : goal.overflow_cast-size
-overflow_cast-size c = search rules
-
-pub overflow_add-size : goal.overflow_add-size
-overflow_add-size c = search rules
 
 pub returns : goal.returns
 returns c =

@@ -2,17 +2,10 @@
 use mathlib.Core.Path.{◌≡◌, ◌∙◌}
 use Prim.Native.Nat.{◌%◌}
 use native.Mathlib.Omega.{arith}
-use borrow.Author.Rules.{rules}
 use Rattle.verifying.proofs.checking.above.Goals as goal
-
-pub hash-requires : goal.hash-requires
-hash-requires c = search rules
 
 pub returns-then-n-eq0 : goal.returns-then-n-eq0
 returns-then-n-eq0 c = c.hash.ensures ∙ rw c.if-n-eq0.true
-
-pub hash-requires-2 : goal.hash-requires-2
-hash-requires-2 c = search rules
 
 pub returns : goal.returns
 returns c =

@@ -3,7 +3,6 @@ use mathlib.Core.Path.{ap, ◌∙◌}
 use mathlib.Core.List.{List}
 use Prim.Native.Nat.{ℕ}
 use borrow.Author.Tests.{eq-eqb, ne_eqb, lt-ltb, le-ltb}
-use borrow.Author.Rules.{rules}
 use Rattle.octets.specs.Order.{byte_order}
 use Rattle.verifying.specs.Answer.{verdict, checked}
 use Rattle.verifying.proofs.checking.check_over.Goals as goal
@@ -19,18 +18,6 @@ returns-then-proof-ne264 c = rw (eq-eqb _ _ c.if-address-ne32.false, ne_eqb _ _ 
 pub returns-then-index-gt127 : goal.returns-then-index-gt127
 unfolding checked
 returns-then-index-gt127 c = rw (eq-eqb _ _ c.if-address-ne32.false, eq-eqb _ _ c.if-proof-ne264.false, lt-ltb _ _ c.if-index-gt127.true)
-
-pub rebuilt-found-requires : goal.rebuilt-found-requires
-rebuilt-found-requires c = search rules
-
-pub slice_bounds-compare-end : goal.slice_bounds-compare-end
-slice_bounds-compare-end c = search rules
-
-pub compare-requires : goal.compare-requires
-compare-requires c = search rules
-
-pub verdict-requires : goal.verdict-requires
-verdict-requires c = search rules
 
 pub returns : goal.returns
 unfolding checked

@@ -6,45 +6,11 @@ use lib.ListN.{take, drop, length-take, length-drop}
 use Rattle.keccak.specs.declared.sponge.Sponge.{Sponge}
 use Rattle.keccak.specs.Sponge.{absorbed}
 use Rattle.keccak.proofs.Step.{word_begins, three_parts, stretches, absorbed_in}
-use borrow.Author.Rules.{rules}
 use Rattle.keccak.proofs.sponge.Sponge.absorb.Goals as goal
-
-pub usable-s-requires : goal.usable-s-requires
-usable-s-requires c = search rules
-
-pub overflow_sub-lead : goal.overflow_sub-lead
-overflow_sub-lead c = search rules
-
-pub bytes-requires : goal.bytes-requires
-bytes-requires c = search rules
 
 pub returns-then-part-lead : goal.returns-then-part-lead
 returns-then-part-lead c =
     c.bytes.ensures ∙ ap (λ (s : Sponge). absorbed s c.args.part.now) c.usable-s.ensures.0
-
-pub words_end-end-requires : goal.words_end-end-requires
-words_end-end-requires c = search rules
-
-pub slice_bounds-bytes-count : goal.slice_bounds-bytes-count
-slice_bounds-bytes-count c = search rules
-
-pub slice_bounds-bytes-start : goal.slice_bounds-bytes-start
-slice_bounds-bytes-start c = search rules
-
-pub slice_bounds-bytes-end : goal.slice_bounds-bytes-end
-slice_bounds-bytes-end c = search rules
-
-pub bytes-begun-requires : goal.bytes-begun-requires
-bytes-begun-requires c = search rules
-
-pub slice_bounds-words-count : goal.slice_bounds-words-count
-slice_bounds-words-count c = search rules
-
-pub slice_bounds-words-start : goal.slice_bounds-words-start
-slice_bounds-words-start c = search rules
-
-pub slice_bounds-words-end : goal.slice_bounds-words-end
-slice_bounds-words-end c = search rules
 
 pub words-whole-requires : goal.words-whole-requires
 words-whole-requires c =
@@ -54,15 +20,6 @@ words-whole-requires c =
     word_begins c.usable-s.result c.bytes-begun.result c.args.part.now k c.usable-s.ensures.1 refl (omega arith)
     (c.bytes-begun.ensures ∙ ap (λ (m : ℕ). absorbed c.usable-s.result (take m c.args.part.now)) z) in
     (b.0, b.1, omega (arith, length-take (c.words_end-end.result - k) (drop k c.args.part.now), length-drop k c.args.part.now))
-
-pub slice_bounds-bytes-count-2 : goal.slice_bounds-bytes-count-2
-slice_bounds-bytes-count-2 c = search rules
-
-pub slice_bounds-bytes-start-2 : goal.slice_bounds-bytes-start-2
-slice_bounds-bytes-start-2 c = search rules
-
-pub slice_bounds-bytes-end-2 : goal.slice_bounds-bytes-end-2
-slice_bounds-bytes-end-2 c = search rules
 
 pub bytes-requires-2 : goal.bytes-requires-2
 bytes-requires-2 c =

@@ -2,7 +2,6 @@ use mathlib.Core.Path.{refl, ap, ap₂, ◌∙◌}
 use mathlib.Core.Logic.{⊎_elim}
 use Prim.Native.Nat.{◌+◌, ◌≤◌, ◌-◌}
 use native.Mathlib.Omega.{arith}
-use borrow.Author.Rules.{rules}
 use lib.ListN.{length, length-set}
 use lib.Seq.{take_all}
 use Rattle.octets.proofs.Bytes.{bytes_known}
@@ -14,36 +13,6 @@ use Rattle.keccak.proofs.sponge.Sponge.words.Goals as goal
 pub loop-i-init : goal.loop-i-init
 unfolding absorbed
 loop-i-init c = (omega arith, omega arith, c.requires.0.in_block, omega arith, c.requires.0.lanes25, refl)
-
-pub overflow_sub-part : goal.overflow_sub-part
-overflow_sub-part c = search rules
-
-pub offset_bounds-lanes-k : goal.offset_bounds-lanes-k
-offset_bounds-lanes-k c = search rules
-
-pub bounds-lanes-k : goal.bounds-lanes-k
-bounds-lanes-k c = search rules
-
-pub read_little64-requires : goal.read_little64-requires
-read_little64-requires c = search rules
-
-pub offset_bounds-lanes-k-in-loop-i : goal.offset_bounds-lanes-k-in-loop-i
-offset_bounds-lanes-k-in-loop-i c = search rules
-
-pub bounds-lanes-k-in-loop-i : goal.bounds-lanes-k-in-loop-i
-bounds-lanes-k-in-loop-i c = search rules
-
-pub overflow_add-place : goal.overflow_add-place
-overflow_add-place c = search rules
-
-pub permute-lanes-requires : goal.permute-lanes-requires
-permute-lanes-requires c = search rules
-
-pub overflow_add-i : goal.overflow_add-i
-overflow_add-i c = search rules
-
-pub loop-i-smaller : goal.loop-i-smaller
-loop-i-smaller c = search rules
 
 pub loop-i-preserved : goal.loop-i-preserved
 loop-i-preserved c =
