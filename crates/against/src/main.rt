@@ -1,5 +1,6 @@
 // Runs every case of a file that the second program wrote, with the proved code, and says of each call how many are equal.
 #![tactic(auto)]
+
 mod books;
 mod case;
 mod chunks;

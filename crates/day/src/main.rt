@@ -1,5 +1,6 @@
 // A day of one neighbourhood on four machines: one stream of offers, four orders, four books, and at noon four draws.
 #![tactic(auto)]
+
 mod file;
 mod hashes;
 mod machine;

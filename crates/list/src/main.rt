@@ -1,5 +1,6 @@
 // Prints the listing of the book on standard input.
 #![tactic(auto)]
+
 mod input;
 
 use input::read_all;

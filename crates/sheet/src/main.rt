@@ -1,5 +1,6 @@
 // Runs document 01's settled examples that are not proved as a table, and says of each what was expected and what came.
 #![tactic(auto)]
+
 mod draws;
 mod hashing;
 mod listed;

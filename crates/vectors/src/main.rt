@@ -1,5 +1,6 @@
 // Hashes every Keccak-256 vector of a file, and a published chunk address, with the proved code, and says how many are equal.
 #![tactic(auto)]
+
 mod field;
 mod line;
 mod run;

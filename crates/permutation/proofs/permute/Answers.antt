@@ -14,12 +14,11 @@ unfolding rounds
 loop-i-init c = (omega arith, refl)
 
 pub loop-i-preserved : goal.loop-i-preserved
-loop-i-preserved c =
-    (
-      omega arith,
-      one_more c.loop-i.i _ c.args.start c.loop-i.a _
-          (ap (λ (s : List ℕ). get_or s c.loop-i.i 0) c.round_constants-table.ensures ∙ tab_at RC 24 c.loop-i.i (omega arith)) c.loop-i.invariant.1 c.round-b.ensures,
-    )
+loop-i-preserved c = (
+  omega arith,
+  one_more c.loop-i.i _ c.args.start c.loop-i.a _
+      (ap (λ (s : List ℕ). get_or s c.loop-i.i 0) c.round_constants-table.ensures ∙ tab_at RC 24 c.loop-i.i (omega arith)) c.loop-i.invariant.1 c.round-b.ensures,
+)
 
 pub returns : goal.returns
 unfolding permute

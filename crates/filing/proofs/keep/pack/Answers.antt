@@ -11,8 +11,7 @@ loop-i-init c = (omega arith, omega arith, refl, λ was count h k p. p)
 
 pub loop-i-preserved-then-depth-near_at : goal.loop-i-preserved-then-depth-near_at
 loop-i-preserved-then-depth-near_at c =
-    let a = c.args in
-    (
+    let a = c.args in (
       omega arith,
       omega arith,
       ap length c.lower.ensures ∙ length_lowered c.loop-i.book (48 + 145 * c.loop-i.i) (48 + 145 * c.loop-i.j) 145 ∙ c.loop-i.invariant.2,
@@ -23,8 +22,7 @@ loop-i-preserved-then-depth-near_at c =
 
 pub loop-i-preserved : goal.loop-i-preserved
 loop-i-preserved c =
-    let a = c.args in
-    (
+    let a = c.args in (
       omega arith,
       omega arith,
       c.loop-i.invariant.2,

@@ -26,8 +26,7 @@ bounds-counters-reach-in-loop-i c = omega (arith, Counting.near_most _ _ c.near_
 
 pub loop-i-preserved : goal.loop-i-preserved
 loop-i-preserved c =
-    let a = c.args in
-    (
+    let a = c.args in (
       omega arith,
       simp length-set c.loop-i.invariant.1,
       Counting.counted_next a.book.now a.count c.loop-i.counters c.loop-i.i (omega arith) c.loop-i.invariant.2 c.near_at-reach.result (omega arith) c.near_at-reach.ensures,

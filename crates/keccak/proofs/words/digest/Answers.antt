@@ -10,12 +10,11 @@ pub loop-i-init : goal.loop-i-init
 loop-i-init c = (omega arith, refl, refl)
 
 pub loop-i-preserved : goal.loop-i-preserved
-loop-i-preserved c =
-    (
-      omega arith,
-      length-set c.loop-i.out c.loop-i.i c.picked.result ∙ c.loop-i.invariant.1,
-      tab_more (byte_of c.args.t1) c.loop-i.out c.loop-i.i c.picked.result (omega arith) c.loop-i.invariant.2 c.picked.ensures,
-    )
+loop-i-preserved c = (
+  omega arith,
+  length-set c.loop-i.out c.loop-i.i c.picked.result ∙ c.loop-i.invariant.1,
+  tab_more (byte_of c.args.t1) c.loop-i.out c.loop-i.i c.picked.result (omega arith) c.loop-i.invariant.2 c.picked.ensures,
+)
 
 pub returns : goal.returns
 unfolding digest_of

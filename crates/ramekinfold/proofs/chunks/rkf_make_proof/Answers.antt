@@ -8,8 +8,7 @@ use Rattle.ramekinfold.proofs.chunks.rkf_make_proof.Goals as goal
 
 pub returns : goal.returns
 returns c =
-    let g = c.args in
-    (
+    let g = c.args in (
       c.number.ensures ∙ ap made_number c.make_proof-answer.ensures.value,
       c.make_proof-answer.ensures.proof_after
           ∙ ap (λ (a : ProofMade). written a (proof_of [] g.span.now g.«data».now g.index) g.proof.now) c.make_proof-answer.ensures.value,

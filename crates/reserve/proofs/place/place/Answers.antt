@@ -27,22 +27,20 @@ is_below-requires c =
     (omega (arith, c.loop-lo.invariant.1, c.requires.0.count, c.requires.0.size), c.requires.1)
 
 pub loop-lo-preserved-then-is_below : goal.loop-lo-preserved-then-is_below
-loop-lo-preserved-then-is_below c =
-    (
-      omega arith,
-      omega arith,
-      Halves.halves_up c.args.book.now c.args.given.now c.requires.0 c.requires.1 (bytes_known c.args.given.now (λ n. (c.type_inv.given n).fits)) c.loop-lo.lo c.loop-lo.hi (middle c) c.loop-lo.invariant.2 (omega arith) (omega arith)
-          (sym c.is_below.ensures ∙ c.if-is_below.true),
-    )
+loop-lo-preserved-then-is_below c = (
+  omega arith,
+  omega arith,
+  Halves.halves_up c.args.book.now c.args.given.now c.requires.0 c.requires.1 (bytes_known c.args.given.now (λ n. (c.type_inv.given n).fits)) c.loop-lo.lo c.loop-lo.hi (middle c) c.loop-lo.invariant.2 (omega arith) (omega arith)
+      (sym c.is_below.ensures ∙ c.if-is_below.true),
+)
 
 pub loop-lo-preserved : goal.loop-lo-preserved
-loop-lo-preserved c =
-    (
-      omega arith,
-      omega arith,
-      Halves.halves_down c.args.book.now c.args.given.now c.requires.0 c.requires.1 (bytes_known c.args.given.now (λ n. (c.type_inv.given n).fits)) c.loop-lo.lo c.loop-lo.hi (middle c) c.loop-lo.invariant.2 (omega arith) (omega arith)
-          (sym c.is_below.ensures ∙ c.if-is_below.false),
-    )
+loop-lo-preserved c = (
+  omega arith,
+  omega arith,
+  Halves.halves_down c.args.book.now c.args.given.now c.requires.0 c.requires.1 (bytes_known c.args.given.now (λ n. (c.type_inv.given n).fits)) c.loop-lo.lo c.loop-lo.hi (middle c) c.loop-lo.invariant.2 (omega arith) (omega arith)
+      (sym c.is_below.ensures ∙ c.if-is_below.false),
+)
 
 pub returns : goal.returns
 returns c =
