@@ -15,7 +15,7 @@ import sys
 
 WORD = re.compile(r"[^\s(){}\[\],;.:\"`]+")
 DECLARED = re.compile(r"^((?:[a-z]+ +)*)([^\s(){}\[\],;.:\"]+)((?:\s+[({].*?[)}])*)\s+:\s*(.*)$")
-MEMBER = re.compile(r"^\s+(?:pub\s+)?([^\s(){}\[\],;.:\"]+)\s+:\s")
+MEMBER = re.compile(r"^\s+(?:(?:pub|abbrev|unfoldable)\s+)*([^\s(){}\[\],;.:\"]+)\s+:(?:\s|$)")
 IMPORT = re.compile(r"use ([^\s{;]+)\.\{([^}]*)\}")
 KEPT = {"C", "D", "RC"}  # the Keccak team's own names
 AT_ONCE = {"is_same": "is_same_lem", "pair_read": "pair_read_lem"}  # lemmas that port.py spelled as the definition they speak of will be
