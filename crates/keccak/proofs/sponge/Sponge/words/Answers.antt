@@ -1,6 +1,5 @@
 use mathlib.Core.Path.{refl, ap, ap₂, ◌∙◌}
-use mathlib.Core.Logic.{⊎_elim}
-use Prim.Native.Nat.{◌+◌, ◌≤◌, ◌-◌}
+use Prim.Native.Nat.{◌+◌, ◌≤◌}
 use native.Mathlib.Omega.{arith}
 use lib.ListN.{length, length-set}
 use lib.Seq.{take_all}
@@ -9,6 +8,7 @@ use Rattle.permutation.proofs.Rounds.{permute_length}
 use Rattle.keccak.specs.Sponge.{sponge, absorbed}
 use Rattle.keccak.proofs.Step.{word_full, word_next}
 use Rattle.keccak.proofs.sponge.Sponge.words.Goals as goal
+use Rattle.keccak.proofs.sponge.Sponge.words.Goals.{then-place-eq-RATE, else-place-eq-RATE}
 
 pub loop-i-init : goal.loop-i-init
 unfolding absorbed
@@ -20,26 +20,29 @@ loop-i-preserved c =
     let p = g.part.now in
     let known = bytes_known p (λ i. (c.type_inv.part i).fits) in
     let h : c.loop-i.i + 8 ≤ length p = omega arith in
-    ⊎_elim
-    (λ v. (
-      h,
-      omega arith,
-      omega (arith, v.3),
-      omega (arith, v.3),
-      ap length (v.2 ∙ v.1.ensures) ∙ permute_length _,
-      ap₂ sponge v.2 v.3
-          ∙ word_full c.loop-i.lanes c.loop-i.place c.read_little64.result g.self p c.loop-i.i c.loop-i.invariant.4 c.loop-i.invariant.2 c.loop-i.invariant.3 h known c.read_little64.ensures c.loop-i.invariant.5 v.1.result v.0.taken v.1.ensures,
-    ))
-    (λ v. (
-      h,
-      omega arith,
-      omega (arith, v.2, v.0.left),
-      omega (arith, v.2),
-      ap length v.1 ∙ length-set c.loop-i.lanes _ _ ∙ c.loop-i.invariant.4,
-      ap₂ sponge v.1 v.2
-          ∙ word_next c.loop-i.lanes c.loop-i.place c.read_little64.result g.self p c.loop-i.i c.loop-i.invariant.4 c.loop-i.invariant.2 c.loop-i.invariant.3 h known c.read_little64.ensures c.loop-i.invariant.5 v.0.left,
-    ))
-    c.if-place-eq-RATE.branch
+    elim c.if-place-eq-RATE.branch [
+      | then-place-eq-RATE w ↦ (
+        h,
+        omega arith,
+        omega arith,
+        omega arith,
+        ap length (w.lanes-is ∙ w.permute-lanes.ensures) ∙ permute_length _,
+        ap₂ sponge w.lanes-is w.place-is
+            ∙ word_full c.loop-i.lanes c.loop-i.place c.read_little64.result g.self p c.loop-i.i c.loop-i.invariant.4 c.loop-i.invariant.2
+            c.loop-i.invariant.3 h known c.read_little64.ensures c.loop-i.invariant.5 w.permute-lanes.result w.if-place-eq-RATE.true
+            w.permute-lanes.ensures,
+      )
+      | else-place-eq-RATE w ↦ (
+        h,
+        omega arith,
+        omega (arith, w.if-place-eq-RATE.false),
+        omega arith,
+        ap length w.lanes-is ∙ length-set c.loop-i.lanes _ _ ∙ c.loop-i.invariant.4,
+        ap₂ sponge w.lanes-is w.place-is
+            ∙ word_next c.loop-i.lanes c.loop-i.place c.read_little64.result g.self p c.loop-i.i c.loop-i.invariant.4 c.loop-i.invariant.2
+            c.loop-i.invariant.3 h known c.read_little64.ensures c.loop-i.invariant.5 w.if-place-eq-RATE.false,
+      )
+    ]
 
 pub returns : goal.returns
 returns c =
