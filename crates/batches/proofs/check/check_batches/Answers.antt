@@ -1,7 +1,7 @@
 use Prim.Native.Nat.{◌-◌, ◌%◌}
 use mathlib.Core.Path.{refl, sym, ◌∙◌}
 use native.Mathlib.Omega.{arith}
-use borrow.Author.Tests.{ne_eqb, not-true, not-false}
+use borrow.Author.Tests.{ne_eqb}
 use lib.ListN.{length}
 use Rattle.batches.specs.Batch.{record_length, well_listed}
 use Rattle.batches.proofs.Listed
@@ -16,19 +16,19 @@ loop-at-init c = (omega arith, omega arith, refl)
 
 pub returns-then-not-fit : goal.returns-then-not-fit
 returns-then-not-fit c =
-    sym (Listed.unfit c.args.batches.now c.loop-at.at (omega arith) c.loop-at.invariant.2 (sym c.fit.ensures ∙ not-true _ c.if-not-fit.true))
+    sym (Listed.unfit c.args.batches.now c.loop-at.at (omega arith) c.loop-at.invariant.2 (sym c.fit.ensures ∙ c.if-not-fit.true))
 
 pub returns-then-not-below_next : goal.returns-then-not-below_next
 returns-then-not-below_next c =
     sym
-    (Listed.not_below c.args.batches.now c.loop-at.at (omega arith) c.loop-at.invariant.2 (sym c.fit.ensures ∙ not-false _ c.if-not-fit.false)
-    (sym c.below_next.ensures ∙ not-true _ c.if-not-below_next.true))
+    (Listed.not_below c.args.batches.now c.loop-at.at (omega arith) c.loop-at.invariant.2 (sym c.fit.ensures ∙ c.if-not-fit.false)
+    (sym c.below_next.ensures ∙ c.if-not-below_next.true))
 
 pub loop-at-preserved : goal.loop-at-preserved
 loop-at-preserved c =
     let on =
-    Listed.goes_on c.args.batches.now c.loop-at.at (omega arith) c.loop-at.invariant.2 (sym c.fit.ensures ∙ not-false _ c.if-not-fit.false)
-    (sym c.below_next.ensures ∙ not-false _ c.if-not-below_next.false) in
+    Listed.goes_on c.args.batches.now c.loop-at.at (omega arith) c.loop-at.invariant.2 (sym c.fit.ensures ∙ c.if-not-fit.false)
+    (sym c.below_next.ensures ∙ c.if-not-below_next.false) in
     (omega arith, omega arith, on)
 
 pub returns : goal.returns

@@ -1,8 +1,7 @@
 -- Each answer is that of the tests that led to it.
 use mathlib.Core.Path.{sym, ◌∙◌}
 use native.Mathlib.Nat.{pos_of_ne-zero}
-use borrow.Author.Rules.{rules}
-use borrow.Author.Tests.{lt-ltb, not-true, not-false}
+use borrow.Author.Tests.{lt-ltb}
 use lib.ListN.{length, take}
 use Rattle.postage.specs.Rules.{rules}
 use Rattle.postage.proofs.Ruled.{held}
@@ -12,7 +11,7 @@ pub returns-then-batch-eq0 : goal.returns-then-batch-eq0
 unfolding rules
 returns-then-batch-eq0 c =
     let is = c.record_from-batch.ensures ∙ c.requires.2 in
-    rw (← is, c.if-batch-eq0.taken)
+    rw (← is, c.if-batch-eq0.true)
 
 pub returns-then-not-in_bucket : goal.returns-then-not-in_bucket
 unfolding rules
@@ -20,19 +19,19 @@ returns-then-not-in_bucket c =
     let is = c.record_from-batch.ensures ∙ c.requires.2 in
     rw (
       ← is,
-      lt-ltb 0 (length c.record_from-batch.result.now) (pos_of_ne-zero c.if-batch-eq0.left),
-      sym c.in_bucket_lem.ensures ∙ not-true _ c.if-not-in_bucket.taken,
+      lt-ltb 0 (length c.record_from-batch.result.now) (pos_of_ne-zero c.if-batch-eq0.false),
+      sym c.in_bucket_lem.ensures ∙ c.if-not-in_bucket.true,
     )
 
 pub in_slots-below-requires : goal.in_slots-below-requires
 in_slots-below-requires c =
     let is = c.record_from-batch.ensures ∙ c.requires.2 in
-    held c.args.batches.now (take 32 c.args.stamp.now) c.record_from-batch.result.now c.requires.1 is c.if-batch-eq0.left
+    held c.args.batches.now (take 32 c.args.stamp.now) c.record_from-batch.result.now c.requires.1 is c.if-batch-eq0.false
 
 pub is_owner-owned-requires : goal.is_owner-owned-requires
 is_owner-owned-requires c =
     let is = c.record_from-batch.ensures ∙ c.requires.2 in
-    held c.args.batches.now (take 32 c.args.stamp.now) c.record_from-batch.result.now c.requires.1 is c.if-batch-eq0.left
+    held c.args.batches.now (take 32 c.args.stamp.now) c.record_from-batch.result.now c.requires.1 is c.if-batch-eq0.false
 
 pub returns-then-not-below : goal.returns-then-not-below
 unfolding rules
@@ -40,9 +39,9 @@ returns-then-not-below c =
     let is = c.record_from-batch.ensures ∙ c.requires.2 in
     rw (
       ← is,
-      lt-ltb 0 (length c.record_from-batch.result.now) (pos_of_ne-zero c.if-batch-eq0.left),
-      sym c.in_bucket_lem.ensures ∙ not-false _ c.if-not-in_bucket.left,
-      sym c.in_slots-below.ensures ∙ not-true c.in_slots-below.result c.if-not-below.taken,
+      lt-ltb 0 (length c.record_from-batch.result.now) (pos_of_ne-zero c.if-batch-eq0.false),
+      sym c.in_bucket_lem.ensures ∙ c.if-not-in_bucket.false,
+      sym c.in_slots-below.ensures ∙ c.if-not-below.true,
     )
 
 pub returns-then-not-owned : goal.returns-then-not-owned
@@ -51,10 +50,10 @@ returns-then-not-owned c =
     let is = c.record_from-batch.ensures ∙ c.requires.2 in
     rw (
       ← is,
-      lt-ltb 0 (length c.record_from-batch.result.now) (pos_of_ne-zero c.if-batch-eq0.left),
-      sym c.in_bucket_lem.ensures ∙ not-false _ c.if-not-in_bucket.left,
-      sym c.in_slots-below.ensures ∙ not-false c.in_slots-below.result c.if-not-below.left,
-      sym c.is_owner-owned.ensures ∙ not-true c.is_owner-owned.result c.if-not-owned.taken,
+      lt-ltb 0 (length c.record_from-batch.result.now) (pos_of_ne-zero c.if-batch-eq0.false),
+      sym c.in_bucket_lem.ensures ∙ c.if-not-in_bucket.false,
+      sym c.in_slots-below.ensures ∙ c.if-not-below.false,
+      sym c.is_owner-owned.ensures ∙ c.if-not-owned.true,
     )
 
 pub returns : goal.returns
@@ -63,8 +62,8 @@ returns c =
     let is = c.record_from-batch.ensures ∙ c.requires.2 in
     rw (
       ← is,
-      lt-ltb 0 (length c.record_from-batch.result.now) (pos_of_ne-zero c.if-batch-eq0.left),
-      sym c.in_bucket_lem.ensures ∙ not-false _ c.if-not-in_bucket.left,
-      sym c.in_slots-below.ensures ∙ not-false c.in_slots-below.result c.if-not-below.left,
-      sym c.is_owner-owned.ensures ∙ not-false c.is_owner-owned.result c.if-not-owned.left,
+      lt-ltb 0 (length c.record_from-batch.result.now) (pos_of_ne-zero c.if-batch-eq0.false),
+      sym c.in_bucket_lem.ensures ∙ c.if-not-in_bucket.false,
+      sym c.in_slots-below.ensures ∙ c.if-not-below.false,
+      sym c.is_owner-owned.ensures ∙ c.if-not-owned.false,
     )
