@@ -29,7 +29,7 @@ loop-i-init c = (omega arith, (search rules, sym (ap written (pieces_none 64 c.a
 pub loop-i-preserved : goal.loop-i-preserved
 loop-i-preserved c =
     let a = c.args in
-    let after = twice c.loop-i.sample a.best.now c.loop-i.i c.put.new.0 c.put-in-loop-i.new.0 c.put.ensures c.put-in-loop-i.ensures in
+    let after = twice c.loop-i.sample a.best.now c.loop-i.i c.put.new.s c.put-in-loop-i.new.s c.put.ensures c.put-in-loop-i.ensures in
     let once = placed c.loop-i.sample (64 * c.loop-i.i) (take 32 (drop (64 * c.loop-i.i + 32) a.best.now)) in (
       omega arith,
       (

@@ -17,5 +17,5 @@ returns c =
     let a = c.args in
     let size = size_read a.rest.now c.read16.result (omega arith) c.read16.ensures in
     let digest = anchored_read a.rest.now c.read16.result size a.anchor.now c.anchored_address-anchored.result c.anchored_address-anchored.ensures in
-    pair_put a.anchor.now (cell_in a.rest.now) (replicate 64 0) c.anchored_address-anchored.result.digest a.recorded.now c.put.new.0 c.put-2.new.0
+    pair_put a.anchor.now (cell_in a.rest.now) (replicate 64 0) c.anchored_address-anchored.result.digest a.recorded.now c.put.new.s c.put-2.new.s
     (length-replicate {A = ℕ} 64 0) digest c.requires.1 c.put.ensures c.put-2.ensures

@@ -1,7 +1,7 @@
 -- Each refusal is that of the part that fails; past them the comparison decides.
-use mathlib.Core.Path.{◌≡◌, sym, ap, ◌∙◌}
+use mathlib.Core.Path.{sym, ap, ◌∙◌}
 use native.Mathlib.Omega.{arith}
-use Rattle.shelf.specs.Read.{matching, cell_answer}
+use Rattle.shelf.specs.Read.{matching}
 use Rattle.shelf.proofs.Cells.{cell_long, cell_cut, cell_told}
 use Rattle.shelf.proofs.judging.sized_answer.Goals as goal
 
@@ -17,15 +17,18 @@ returns-then-rest-end c =
 
 pub returns-in-Less : goal.returns-in-Less
 returns-in-Less c =
-    let told : let a = c.args in matching c.compare.result ≡ cell_answer a.recorded.now a.rest.now = let a = c.args in cell_told a.rest.now a.size c.requires.1.0 (omega arith) (omega arith) a.recorded.now c.address-own.result c.compare.result c.address-own.ensures c.compare.ensures in
-    ap matching (sym c.in-Less.is) ∙ told
+    let a = c.args in
+    ap matching (sym c.in-Less.is)
+    ∙ cell_told a.rest.now a.size c.requires.1.0 (omega arith) (omega arith) a.recorded.now c.address-own.result c.compare.result c.address-own.ensures c.compare.ensures
 
 pub returns-in-Same : goal.returns-in-Same
 returns-in-Same c =
-    let told : let a = c.args in matching c.compare.result ≡ cell_answer a.recorded.now a.rest.now = let a = c.args in cell_told a.rest.now a.size c.requires.1.0 (omega arith) (omega arith) a.recorded.now c.address-own.result c.compare.result c.address-own.ensures c.compare.ensures in
-    ap matching (sym c.in-Same.is) ∙ told
+    let a = c.args in
+    ap matching (sym c.in-Same.is)
+    ∙ cell_told a.rest.now a.size c.requires.1.0 (omega arith) (omega arith) a.recorded.now c.address-own.result c.compare.result c.address-own.ensures c.compare.ensures
 
 pub returns-in-More : goal.returns-in-More
 returns-in-More c =
-    let told : let a = c.args in matching c.compare.result ≡ cell_answer a.recorded.now a.rest.now = let a = c.args in cell_told a.rest.now a.size c.requires.1.0 (omega arith) (omega arith) a.recorded.now c.address-own.result c.compare.result c.address-own.ensures c.compare.ensures in
-    ap matching (sym c.in-More.is) ∙ told
+    let a = c.args in
+    ap matching (sym c.in-More.is)
+    ∙ cell_told a.rest.now a.size c.requires.1.0 (omega arith) (omega arith) a.recorded.now c.address-own.result c.compare.result c.address-own.ensures c.compare.ensures
