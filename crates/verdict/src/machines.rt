@@ -5,7 +5,7 @@ ghost use Rattle.verdict.specs.Agree.{one_hash, agreed};
 use crate::equal::same_digest;
 
 // What a machine's draw came to: its number, and the hash that was drawn.
-#[derive(Drop)]
+#[derive(Clone, Copy)]
 pub struct Drawn {
     pub number: u32,
     pub hash: [u8; 32],
