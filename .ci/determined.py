@@ -1,7 +1,8 @@
 """Holds a determined-theorem to the contract that it speaks of. Texts are compared; what a definition means is not looked at.
 
-A term is a word, or a tuple of terms: a function and what it is applied to. In a contract the words of two runs begin with $: $x and
-$x now are what a parameter is and what it lends, $1 result and $1 x after now what the first run hands back and leaves, $2 the second.
+A term is a word, or a tuple of terms: a function and what it is applied to; x.f is .f applied to x. In a contract the words of two runs
+begin with $: $x and $x now are what a parameter is and what it lends, $1 result and $1 x after now what the first run hands back and
+leaves, $2 the second.
 """
 import re
 
@@ -9,16 +10,17 @@ from reading import theorem, used
 
 
 def nested(text):
-    """The words of a text, in lists as its round brackets nest them."""
+    """The words of a text, in lists as its round brackets nest them. A field that is written tight, as in x.f and (g x).f, makes a list too."""
     stack = [[]]
-    for word in re.findall(r'[()]|[^\s()]+', text):
+    for word in re.findall(r'\(|\)(?:\.[^.,\s()]+)*|,|[^,\s()]+', text):
         if word == '(':
             stack.append([])
-        elif word == ')' and len(stack) > 1:
-            inner = stack.pop()
-            stack[-1].append(inner)
-        else:
-            stack[-1].append(word.strip('«»'))
+            continue
+        base, *fields = re.findall(r'^[^.]+|\.[^.]+', word) if re.match(r'\)|[a-z_«][^.]*\.', word) else [word]
+        base = stack.pop() if base == ')' and len(stack) > 1 else base.strip('«»')
+        for field in fields:
+            base = [base, field]
+        stack[-1].append(base)
     return stack[0]
 
 
@@ -42,31 +44,35 @@ def equations(words, known):
     """What stands joined by ×: of an equation its two sides, of another fact one."""
     while len(words) == 1 and isinstance(words[0], list):
         words = words[0]
+    if any(sign in words for sign in ('→', '⊎', '↔')):
+        return [(term(words, known),)]
     if '×' in words:
         return [e for part in apart(words, '×') for e in equations(part, known)]
     return [tuple(term(side, known) for side in apart(words, '≡'))]
+
+
+# What is said of a reference: as it was passed and as it is afterwards, what stands there, and where that is.
+REFERENCE = {'.entry': '', '.exit': ' after', '.now': ' now', '.old': ' now', '.new': ' after now', '.ref_ptr': ' ptr'}
 
 
 def seen(t, run):
     """A term of a contract, in one of the two runs: what is lent or handed back is one word."""
     if isinstance(t, str):
         return t.replace('$ ', f'${run} ')
-    t = tuple(seen(part, run) for part in t)
-    if t[0] in ('now', 'denote.Ref.ptr') and isinstance(t[1], str):
-        return f'{t[1]} {shown(t[0])}'
-    if t[-1] in ('.entry', '.exit'):
-        return t[0] if t[-1] == '.entry' else f'${run} {t[0][1:]} after'
-    return t
+    head, *rest = [seen(part, run) for part in t]
+    while rest and isinstance(head, str) and head.startswith('$') and rest[0] in REFERENCE:
+        word = REFERENCE[rest.pop(0)]
+        head = (f'${run} {head[1:]}' if word.startswith(' after') else head) + word
+    return (head, *rest) if rest else head
 
 
 def promised(function, uses, run):
     """The equations of a contract, in one of the two runs. Another fact in it is passed over: a theorem without it says more."""
     found = []
+    known = uses | {p: f'${p}' for p in function.parameters} | {'result': '$ result'}
     for word, _, text in function.contract:
-        m = re.search(r'λ\s*(\w+)\.\s*⌜(.*)⌝', text, re.S)
-        if word == 'ensures' and m:
-            known = uses | {p: f'${p}' for p in function.parameters} | {m[1]: '$ result'}
-            found += [seen(e, run) for e in equations(nested(m[2]), known) if len(e) == 2]
+        if word == 'ensures':
+            found += [seen(e, run) for e in equations(nested(text[1:-1]), known) if len(e) == 2]
     return found
 
 
@@ -116,5 +122,5 @@ def silent(function):
     """What no equation of a contract speaks of, and so is left open: the result, or what a buffer holds afterwards."""
     spoken = given(tuple(promised(function, {}, 1)))
     owed = {'result': 'its result'} if function.hands_back else {}
-    owed |= {f'{p} after': f'what `{p}` holds afterwards' for p in function.written}
+    owed |= {f'{p} after now': f'what `{p}` holds afterwards' for p in function.written}
     return [what for start, what in owed.items() if not any(word.startswith(start) for word in spoken)]

@@ -4,7 +4,7 @@ import pathlib
 import re
 
 PROMISES = 'docs/PROMISES.md'
-KIT = {'std', 'check', 'libc', 'io', 'os', 'bytes'}
+KIT = {'std', 'core', 'check'}
 ENDINGS = ('.rt', '.antt', '.edit', '.md', '.rs', '.h', '.c', '.txt', '.toml')
 
 
@@ -22,11 +22,12 @@ def line_at(text, place):
 class Item:
     """A function, type, constant or module of a crate. Its path is modules, then the type of an `impl`, then its name."""
 
-    def __init__(self, crate, file, line, kind, path, public=False, exported=False, method=False, signature='', contract=()):
+    def __init__(self, crate, file, line, kind, path, public=False, exported=False, method=False, signature='', contract=(), body='', end=0):
         self.crate, self.file, self.line, self.kind, self.path = crate, file, line, kind, path
         self.public, self.exported, self.method, self.contract = public, exported, method, contract
-        self.parameters = re.findall(r'\bself\b|\b\w+(?=\s*:)', signature)
-        self.written = re.findall(r"\b(\w+)\s*:\s*&(?:'\w+\s+)?mut\b", signature)
+        self.body, self.end = body, end
+        self.parameters = re.findall(r'\bself\b|\b\w+(?=\s*:(?!:))', signature)
+        self.written = [a or b for a, b in re.findall(r"\b(\w+)\s*:\s*&(?:'\w+\s+)?mut\b|&(?:'\w+\s+)?mut\s+(self)\b", signature)]
         self.hands_back = '->' in signature
         self.name = '::'.join((crate,) + path)
 
@@ -45,7 +46,7 @@ TOKEN = re.compile(
 
 def code(text):
     """Rattle without comments and literals."""
-    return blanked(r'//[^\n]*|b?"(?:\\.|[^"\\])*"' + r"|\bb'(?:\\x..|\\.|[^'\\\n])'", text)
+    return blanked(r'//[^\n]*|b?"(?:\\.|[^"\\])*"' + r"|b?'(?:\\x..|\\.|[^'\\\n])'", text)
 
 
 def closing(text, at):
@@ -59,10 +60,10 @@ def closing(text, at):
 
 
 def contract_after(text, at):
-    """What follows a function's name up to its clauses, these as (word, line, text), and where its body begins."""
+    """What follows a function's name up to its clauses, these as (word, line, text), and where its body begins. A starred clause keeps its star."""
     signature, clauses = '', []
     while (brace := text.find('{', at)) >= 0:
-        word = re.search(r'\b(requires|ensures)\b', text[at:brace])
+        word = re.search(r'\b(?:requires|ensures)\b\*?', text[at:brace])
         signature = signature or text[at:at + word.start() if word else brace]
         if not word:
             return signature, clauses, brace
@@ -88,7 +89,8 @@ def items(crate, file, text):
             signature, contract, at = contract_after(text, at)
             method = any(kind == 'impl' for kind, _ in owners)
             public, exported = bool(m['pub']), bool(m['pub'] and m['extern'])
-            found.append(Item(crate, file, line, 'fn', path + (m['fn'],), public, exported, method, signature, contract))
+            end = closing(text, at)
+            found.append(Item(crate, file, line, 'fn', path + (m['fn'],), public, exported, method, signature, contract, text[at:end], line_at(text, end)))
         elif m['item']:
             found.append(Item(crate, file, line, m['kind'], path + (m['item'],)))
         elif m.group() == '{':
@@ -98,11 +100,26 @@ def items(crate, file, text):
     return found
 
 
+# ---- must-fail edits
+
+def pairs(text):
+    """The pairs of an edit, as (line, file, old text, new text)."""
+    file, old = '', ''
+    for n, line in enumerate(text.split('\n'), 1):
+        if line.startswith('file: '):
+            file = line[6:]
+        elif line.startswith('old: '):
+            old = line[5:]
+        elif line.startswith('new:'):
+            yield n, file, old, line[4:].removeprefix(' ')
+            old = ''
+
+
 # ---- antt
 
 def used(text):
     """What a file takes from others, by the name that it gives it."""
-    taken = [(path, *name.split(' as ')) for path, names in re.findall(r'\buse\s+(\S+)\.\{([^}]*)\}', text) for name in names.split(', ')]
+    taken = [(path, *name.split(' as ')) for path, names in re.findall(r'\buse\s+(\S+)\.\{([^}]*)\}', text) for name in re.split(r',\s*', names.strip())]
     return {name[-1]: f'{path}.{name[0]}' for path, *name in taken}
 
 
@@ -204,7 +221,7 @@ class Repository:
     def files(self, *endings):
         """The project's own files with one of these endings, as paths from the root."""
         for folder, inner, names in os.walk(self.root):
-            inner[:] = sorted(d for d in inner if d not in ('.git', 'target'))
+            inner[:] = sorted(d for d in inner if d not in ('.git', 'out', 'target'))
             for name in sorted(names):
                 if name.endswith(endings):
                     yield (pathlib.Path(folder) / name).relative_to(self.root).as_posix()
