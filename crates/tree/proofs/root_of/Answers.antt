@@ -22,10 +22,11 @@ zero_roots-requires c =
 pub root-requires : goal.root-requires
 root-requires c =
     let x = c.args in
-    let most : width x.level - length (take (c.lesser-end.result - 0) x.part.now) ≤ c.width-whole.result - c.lesser-end.result = simp length-take (omega arith) in (
-      (c.if-level-gt7.false, simp length-take (omega arith), c.zero_roots.ensures.0),
-      zeros_fewer x.prefix.now _ _ c.zero_roots.new.1.1.0 most c.zero_roots.ensures.1,
-    )
+    let most : width x.level - length (take (c.lesser-end.result - 0) x.part.now) ≤ c.width-whole.result - c.lesser-end.result = simp length-take (omega arith) in
+    record {
+      level_bound = (c.if-level-gt7.false, simp length-take (omega arith), c.zero_roots.ensures.0);
+      zero_roots = zeros_fewer x.prefix.now _ _ c.zero_roots.new.zeros most c.zero_roots.ensures.1;
+    }
 
 pub returns : goal.returns
 returns c =

@@ -28,7 +28,7 @@ loop-next-preserved c =
       omega arith,
       ap length c.put.ensures ∙ length_placed c.loop-next.zeros (32 * c.loop-next.level + 32) c.hash-above.result ∙ c.loop-next.invariant.1,
       ap₂ ◌+◌ c.loop-next.invariant.2 c.loop-next.invariant.2 ∙ sym (width_suc (suc c.loop-next.level)) ∙ ap (λ (m : ℕ). width (suc m)) (sym (add-one c.loop-next.level)),
-      rows_more x.prefix.now c.loop-next.level c.loop-next.zeros c.hash-above.result c.put.new.0 (omega arith) k c.loop-next.invariant.3
+      rows_more x.prefix.now c.loop-next.level c.loop-next.zeros c.hash-above.result c.put.new.s (omega arith) k c.loop-next.invariant.3
           (c.hash-above.ensures ∙ ap (λ (m : ℕ). hash x.prefix.now (take m (drop (32 * c.loop-next.level) c.loop-next.zeros) ++ take m (drop (32 * c.loop-next.level) c.loop-next.zeros))) n) c.put.ensures,
     )
 

@@ -9,5 +9,5 @@ pub returns : goal.returns
 returns c =
     let x = c.args in
     let k : length c.node-segment.result ≡ 32 = search rules in
-    proof_put x.prefix.now x.span.now x.«data».now x.index x.proof.now c.node-segment.result c.put.new.0 c.write_sisters.new.1.1.1.0
-    c.put-2.new.0 c.requires.1 k c.requires.0 c.node-segment.ensures c.put.ensures c.write_sisters.ensures.proof_len c.write_sisters.ensures.proof_after c.put-2.ensures
+    proof_put x.prefix.now x.span.now x.«data».now x.index x.proof.now c.node-segment.result c.put.new.s c.write_sisters.new.proof
+    c.put-2.new.s c.requires.1 k c.requires.0 c.node-segment.ensures c.put.ensures c.write_sisters.ensures.proof_len c.write_sisters.ensures.proof_after c.put-2.ensures

@@ -1,6 +1,6 @@
 use mathlib.Core.Path.{◌≡◌, sym, ap, subst, ◌∙◌}
 use mathlib.Core.List.{◌++◌, append-nil}
-use Prim.Native.Nat.{ℕ, ◌+◌, ◌*◌, ◌-◌, ◌^◌}
+use Prim.Native.Nat.{ℕ, ◌+◌, ◌*◌, ◌^◌}
 use native.Mathlib.Nat.{div-le_self}
 use native.Mathlib.Omega.{arith}
 use borrow.Author.Rules.{rules}
@@ -28,7 +28,7 @@ loop-level-preserved c =
     let k : length c.node-sister.result ≡ 32 = search rules in (
       omega arith,
       ap length c.put.ensures ∙ length_placed c.loop-level.proof (32 + 32 * c.loop-level.level) c.node-sister.result ∙ c.loop-level.invariant.1,
-      sister_put x.prefix.now x.index (pad_to 4096 x.«data».now) (take 32 x.proof.now) c.loop-level.proof c.node-sister.result c.put.new.0 c.loop-level.level
+      sister_put x.prefix.now x.index (pad_to 4096 x.«data».now) (take 32 x.proof.now) c.loop-level.proof c.node-sister.result c.put.new.s c.loop-level.level
           c.beside.result (omega arith) c.loop-level.invariant.1 k c.loop-level.invariant.2 c.beside.ensures c.node-sister.ensures c.put.ensures,
     )
 

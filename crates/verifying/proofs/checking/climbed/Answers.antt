@@ -16,7 +16,7 @@ pub loop-level-init : goal.loop-level-init
 unfolding climbed
 loop-level-init c =
     let k : length (take 32 c.args.proof.now) ≡ 32 = length-take-le 32 c.args.proof.now (omega arith) in
-    let e : c.put.new.0 ≡ take 32 c.args.proof.now = c.put.ensures ∙ pad_placed 32 (take 32 c.args.proof.now) (omega arith) ∙ pad_none 32 (take 32 c.args.proof.now) k in
+    let e : c.put.new.s ≡ take 32 c.args.proof.now = c.put.ensures ∙ pad_placed 32 (take 32 c.args.proof.now) (omega arith) ∙ pad_none 32 (take 32 c.args.proof.now) k in
     (omega arith, ap length e ∙ k, e)
 
 pub loop-level-preserved : goal.loop-level-preserved
