@@ -19,12 +19,12 @@ returns-then-overlay-ne32 c =
 pub overflow_mul-capacity : goal.overflow_mul-capacity
 overflow_mul-capacity c =
     let bounds = Opening.in_range_lem c.args.capacity c.args.starting (sym c.in_range.ensures ∙ c.if-not-in_range.false) in
-    record { fits = omega (arith, bounds.1.0) }
+    record { fits = omega (arith, bounds.1) }
 
 pub overflow_add-capacity : goal.overflow_add-capacity
 overflow_add-capacity c =
     let bounds = Opening.in_range_lem c.args.capacity c.args.starting (sym c.in_range.ensures ∙ c.if-not-in_range.false) in
-    record { fits = omega (arith, bounds.1.0) }
+    record { fits = omega (arith, bounds.1) }
 
 pub returns-then-book-capacity : goal.returns-then-book-capacity
 returns-then-book-capacity c =
@@ -35,12 +35,12 @@ returns-then-book-capacity c =
 pub overflow_cast-capacity : goal.overflow_cast-capacity
 overflow_cast-capacity c =
     let bounds = Opening.in_range_lem c.args.capacity c.args.starting (sym c.in_range.ensures ∙ c.if-not-in_range.false) in
-    record { fits = omega (arith, bounds.1.0) }
+    record { fits = omega (arith, bounds.1) }
 
 pub overflow_cast-starting : goal.overflow_cast-starting
 overflow_cast-starting c =
     let bounds = Opening.in_range_lem c.args.capacity c.args.starting (sym c.in_range.ensures ∙ c.if-not-in_range.false) in
-    record { fits = omega (arith, bounds.1.1) }
+    record { fits = omega (arith, bounds.2) }
 
 pub returns : goal.returns
 returns c =
