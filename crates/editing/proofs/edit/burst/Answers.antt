@@ -20,7 +20,7 @@ bounds-book-7 c = simp length-set (omega arith)
 
 pub shape_of-book : goal.shape_of-book
 shape_of-book c =
-    ap length c.clear.ensures ∙ length_placed c.write32.new.0 48 (replicate (length c.args.book.now - 48) 0)
+    ap length c.clear.ensures ∙ length_placed c.write32.new.s 48 (replicate (length c.args.book.now - 48) 0)
     ∙ ap length c.write32.ensures ∙ length_placed (set (set c.args.book.now 5 1) 7 16) 44 (bytes_of 4 0) ∙ simp length-set
 
 pub returns : goal.returns

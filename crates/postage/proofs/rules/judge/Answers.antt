@@ -20,7 +20,7 @@ returns-then-not-in_bucket c =
     rw (
       ← is,
       lt-ltb 0 (length c.record_from-batch.result.now) (pos_of_ne-zero c.if-batch-eq0.false),
-      sym c.in_bucket_lem.ensures ∙ c.if-not-in_bucket.true,
+      sym c.in_bucket.ensures ∙ c.if-not-in_bucket.true,
     )
 
 pub in_slots-below-requires : goal.in_slots-below-requires
@@ -40,7 +40,7 @@ returns-then-not-below c =
     rw (
       ← is,
       lt-ltb 0 (length c.record_from-batch.result.now) (pos_of_ne-zero c.if-batch-eq0.false),
-      sym c.in_bucket_lem.ensures ∙ c.if-not-in_bucket.false,
+      sym c.in_bucket.ensures ∙ c.if-not-in_bucket.false,
       sym c.in_slots-below.ensures ∙ c.if-not-below.true,
     )
 
@@ -51,7 +51,7 @@ returns-then-not-owned c =
     rw (
       ← is,
       lt-ltb 0 (length c.record_from-batch.result.now) (pos_of_ne-zero c.if-batch-eq0.false),
-      sym c.in_bucket_lem.ensures ∙ c.if-not-in_bucket.false,
+      sym c.in_bucket.ensures ∙ c.if-not-in_bucket.false,
       sym c.in_slots-below.ensures ∙ c.if-not-below.false,
       sym c.is_owner-owned.ensures ∙ c.if-not-owned.true,
     )
@@ -63,7 +63,7 @@ returns c =
     rw (
       ← is,
       lt-ltb 0 (length c.record_from-batch.result.now) (pos_of_ne-zero c.if-batch-eq0.false),
-      sym c.in_bucket_lem.ensures ∙ c.if-not-in_bucket.false,
+      sym c.in_bucket.ensures ∙ c.if-not-in_bucket.false,
       sym c.in_slots-below.ensures ∙ c.if-not-below.false,
       sym c.is_owner-owned.ensures ∙ c.if-not-owned.false,
     )

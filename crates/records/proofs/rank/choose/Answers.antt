@@ -30,10 +30,16 @@ returns-in-Same c =
 
 pub returns-in-Less : goal.returns-in-Less
 returns-in-Less c =
-    let two_slots : (c.compare.result ≡ Same → ⊥) → let a = c.args in Neither ≡ choice a.first.now a.second.now = λ h. let a = c.args in sym (Ranks.choice_two_slots a.first.now a.second.now c.if-first-ne145.false c.if-second-ne145.false (bytes_known a.first.now (λ n. (c.type_inv.first n).fits)) (bytes_known a.second.now (λ n. (c.type_inv.second n).fits)) (λ q. h (c.compare.ensures ∙ q))) in
-    two_slots (λ q. less_not_same (sym c.in-Less.is ∙ q))
+    let a = c.args in
+    sym
+    (Ranks.choice_two_slots a.first.now a.second.now c.if-first-ne145.false c.if-second-ne145.false
+    (bytes_known a.first.now (λ n. (c.type_inv.first n).fits)) (bytes_known a.second.now (λ n. (c.type_inv.second n).fits))
+    (λ q. less_not_same (sym c.in-Less.is ∙ (c.compare.ensures ∙ q))))
 
 pub returns-in-More : goal.returns-in-More
 returns-in-More c =
-    let two_slots : (c.compare.result ≡ Same → ⊥) → let a = c.args in Neither ≡ choice a.first.now a.second.now = λ h. let a = c.args in sym (Ranks.choice_two_slots a.first.now a.second.now c.if-first-ne145.false c.if-second-ne145.false (bytes_known a.first.now (λ n. (c.type_inv.first n).fits)) (bytes_known a.second.now (λ n. (c.type_inv.second n).fits)) (λ q. h (c.compare.ensures ∙ q))) in
-    two_slots (λ q. more_not_same (sym c.in-More.is ∙ q))
+    let a = c.args in
+    sym
+    (Ranks.choice_two_slots a.first.now a.second.now c.if-first-ne145.false c.if-second-ne145.false
+    (bytes_known a.first.now (λ n. (c.type_inv.first n).fits)) (bytes_known a.second.now (λ n. (c.type_inv.second n).fits))
+    (λ q. more_not_same (sym c.in-More.is ∙ (c.compare.ensures ∙ q))))

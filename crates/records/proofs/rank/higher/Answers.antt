@@ -16,4 +16,4 @@ returns-in-Second c =
 pub returns-in-Neither : goal.returns-in-Neither
 unfolding higher_of place_of
 returns-in-Neither c =
-    record { result_value = rw (← c.choose.ensures, c.in-Neither.is); ref_ptr_value = rw (← c.choose.ensures, c.in-Neither.is) ? }
+    record { result_value = rw (← c.choose.ensures, c.in-Neither.is); ref_ptr_value = rw (← c.choose.ensures, c.in-Neither.is) (λ i. (c.args.first.ref_ptr.0, zero-add c.args.first.ref_ptr.1 i)) }

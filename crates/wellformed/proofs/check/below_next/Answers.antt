@@ -26,26 +26,25 @@ told s n i o f at next p q e b h k =
     let slots : o ≡ byte_order (take 40 (drop (48 + 145 * i) s)) (take 40 (drop (48 + 145 * (i + 1)) s)) = rw (first, second, r, p) at e in
     f ∙ ap is_less slots ∙ sym (Tests.next_rises s n i b h k)
 
-decided : (w : Compared) {b : Bool} → b ≡ is_less w.compare.result → let a = w.before.before.before.before.before.args in
-    b ≡ rises (take 2 (pieces 145 (a.count - a.i) (drop (48 + 145 * a.i) a.book.now)))
-decided w f =
-    let k = w.before.before.before.before in
-    let a = k.before.args in
-    told a.book.now a.count a.i w.compare.result f (48 + 145 * a.i) (48 + 145 * a.i + 145) (omega arith) (omega arith) w.compare.ensures
-    (bytes_known a.book.now (λ n. (k.shared-slice-known.given n).fits))
-    (omega arith)
-    (omega arith)
-
 pub returns-then-i-count : goal.returns-then-i-count
 returns-then-i-count c =
     let a = c.args in
     sym (Tests.last_rises a.book.now a.count a.i c.if-i-count.true)
 
 pub returns-in-Less : goal.returns-in-Less
-returns-in-Less c = decided c (ap is_less (sym c.in-Less.is))
+returns-in-Less c =
+    let a = c.args in
+    told a.book.now a.count a.i c.compare.result (ap is_less (sym c.in-Less.is)) (48 + 145 * a.i) (48 + 145 * a.i + 145) (omega arith) (omega arith) c.compare.ensures
+    (bytes_known a.book.now (λ n. (c.type_inv.book n).fits)) (omega arith) (omega arith)
 
 pub returns-in-Same : goal.returns-in-Same
-returns-in-Same c = decided c (ap is_less (sym c.in-Same.is))
+returns-in-Same c =
+    let a = c.args in
+    told a.book.now a.count a.i c.compare.result (ap is_less (sym c.in-Same.is)) (48 + 145 * a.i) (48 + 145 * a.i + 145) (omega arith) (omega arith) c.compare.ensures
+    (bytes_known a.book.now (λ n. (c.type_inv.book n).fits)) (omega arith) (omega arith)
 
 pub returns-in-More : goal.returns-in-More
-returns-in-More c = decided c (ap is_less (sym c.in-More.is))
+returns-in-More c =
+    let a = c.args in
+    told a.book.now a.count a.i c.compare.result (ap is_less (sym c.in-More.is)) (48 + 145 * a.i) (48 + 145 * a.i + 145) (omega arith) (omega arith) c.compare.ensures
+    (bytes_known a.book.now (λ n. (c.type_inv.book n).fits)) (omega arith) (omega arith)

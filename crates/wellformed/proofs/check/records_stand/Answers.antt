@@ -2,7 +2,6 @@ use Prim.Native.Nat.{◌+◌, ◌-◌, ◌*◌}
 use mathlib.Core.Path.{◌≡◌, sym, ◌∙◌}
 use native.Mathlib.Nat.{sub-zero}
 use native.Mathlib.Omega.{arith}
-use borrow.Author.Tests.{not-true, not-false}
 use lib.ListN.{take, drop}
 use Rattle.octets.proofs.Parts.{part_length}
 use Rattle.book.specs.Layout.{depth_in, overlay_in}
@@ -24,7 +23,7 @@ returns-then-not-record_stands c =
     let stood : c.record_stands.result ≡ stands (depth_in c.args.book.now) (overlay_in c.args.book.now) (take 145 (drop (48 + 145 * c.loop-i.i) c.args.book.now)) = let at = 48 + 145 * c.loop-i.i in let e : at + 145 - at ≡ 145 = omega arith in c.record_stands.ensures ∙ rw (e, c.depth-depth.ensures) in
     let a = c.args in
     let s = a.book.now in
-    sym (c.loop-i.invariant.1 ∙ turn s a.count c.loop-i.i (depth_in s) (overlay_in s) (omega arith) ∙ rw (sym stood ∙ not-true _ c.if-not-record_stands.true))
+    sym (c.loop-i.invariant.1 ∙ turn s a.count c.loop-i.i (depth_in s) (overlay_in s) (omega arith) ∙ rw (sym stood ∙ c.if-not-record_stands.true))
 
 pub returns-then-not-below_next : goal.returns-then-not-below_next
 returns-then-not-below_next c =
@@ -32,7 +31,7 @@ returns-then-not-below_next c =
     let a = c.args in
     let s = a.book.now in
     sym (c.loop-i.invariant.1 ∙ turn s a.count c.loop-i.i (depth_in s) (overlay_in s) (omega arith)
-    ∙ rw (sym stood ∙ not-false _ c.if-not-record_stands.false, sym c.below_next.ensures ∙ not-true _ c.if-not-below_next.true))
+    ∙ rw (sym stood ∙ c.if-not-record_stands.false, sym c.below_next.ensures ∙ c.if-not-below_next.true))
 
 pub loop-i-preserved : goal.loop-i-preserved
 loop-i-preserved c =
@@ -41,7 +40,7 @@ loop-i-preserved c =
     let s = a.book.now in (
       omega arith,
       c.loop-i.invariant.1 ∙ turn s a.count c.loop-i.i (depth_in s) (overlay_in s) (omega arith)
-          ∙ rw (sym stood ∙ not-false _ c.if-not-record_stands.false, sym c.below_next.ensures ∙ not-false _ c.if-not-below_next.false),
+          ∙ rw (sym stood ∙ c.if-not-record_stands.false, sym c.below_next.ensures ∙ c.if-not-below_next.false),
     )
 
 pub returns : goal.returns
