@@ -17,7 +17,7 @@ loop-i-preserved-then-depth-near_at c =
       ap length c.lower.ensures ∙ length_lowered c.loop-i.book (48 + 145 * c.loop-i.i) (48 + 145 * c.loop-i.j) 145 ∙ c.loop-i.invariant.2,
       λ was count h k p.
           Packing.packed_in was count a.depth k c.loop-i.book c.loop-i.i c.loop-i.j (c.loop-i.invariant.3 was count h k p) (omega arith)
-          c.near_at.result c.near_at.ensures c.lower.new.0 c.if-depth-near_at.true (omega arith) c.lower.ensures,
+          c.near_at.result c.near_at.ensures c.lower.new.s c.if-depth-near_at.true (omega arith) c.lower.ensures,
     )
 
 pub loop-i-preserved : goal.loop-i-preserved

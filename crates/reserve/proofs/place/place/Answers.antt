@@ -1,4 +1,4 @@
-use Prim.Native.Nat.{ℕ, ◌-◌, ◌+◌, ◌/◌}
+use Prim.Native.Nat.{◌-◌, ◌+◌, ◌/◌}
 use mathlib.Core.Path.{◌≡◌, sym, ◌∙◌}
 use mathlib.Core.List.{[]}
 use lib.ListN.{length}
@@ -13,36 +13,40 @@ use Rattle.book.proofs.Fields
 use Rattle.reserve.proofs.Halves
 use Rattle.reserve.proofs.place.place.Goals as goal
 
-abbrev middle : tie.In-loop invariant-loop decreases-loop → ℕ
-middle c = let l = c.before in l.loop.lo + (l.loop.hi - l.loop.lo) / 2
-
 pub loop-lo-init : goal.loop-lo-init
 loop-lo-init c =
-    let same : c.count-hi.result ≡ count_in c.args.book.now = c.count-hi.ensures ∙ Fields.count_there c.args.book.now (omega (arith, c.requires.0.size)) in
-    let n : length (records_in c.args.book.now) ≡ c.count-hi.result = Cuts.counted c.args.book.now ∙ sym same in
-    (omega arith, omega (arith, same), rw n at (halving_start (shape_in c.args.book.now) [] (records_in c.args.book.now) (slot c.args.given.now)))
+    let a = c.args in
+    let s = a.book.now in
+    let same : c.count-hi.result ≡ count_in s = c.count-hi.ensures ∙ Fields.count_there s (omega (arith, c.requires.0.size)) in
+    let n : length (records_in s) ≡ c.count-hi.result = Cuts.counted s ∙ sym same in
+    (omega arith, omega (arith, same), rw n at (halving_start (shape_in s) [] (records_in s) (slot a.given.now)))
 
 pub is_below-requires : goal.is_below-requires
-is_below-requires c =
-    (omega (arith, c.loop-lo.invariant.1, c.requires.0.count, c.requires.0.size), c.requires.1)
+is_below-requires c = (omega (arith, c.loop-lo.invariant.1, c.requires.0.count, c.requires.0.size), c.requires.1)
 
 pub loop-lo-preserved-then-is_below : goal.loop-lo-preserved-then-is_below
-loop-lo-preserved-then-is_below c = (
-  omega arith,
-  omega arith,
-  Halves.halves_up c.args.book.now c.args.given.now c.requires.0 c.requires.1 (bytes_known c.args.given.now (λ n. (c.type_inv.given n).fits)) c.loop-lo.lo c.loop-lo.hi (middle c) c.loop-lo.invariant.2 (omega arith) (omega arith)
-      (sym c.is_below.ensures ∙ c.if-is_below.true),
-)
+loop-lo-preserved-then-is_below c =
+    let a = c.args in
+    let l = c.loop-lo in
+    (
+      omega arith,
+      omega arith,
+      Halves.halves_up a.book.now a.given.now c.requires.0 c.requires.1 (bytes_known a.given.now (λ n. (c.type_inv.given n).fits)) l.lo l.hi (l.lo + (l.hi - l.lo) / 2) l.invariant.2
+          (omega arith) (omega arith) (sym c.is_below.ensures ∙ c.if-is_below.true),
+    )
 
 pub loop-lo-preserved : goal.loop-lo-preserved
-loop-lo-preserved c = (
-  omega arith,
-  omega arith,
-  Halves.halves_down c.args.book.now c.args.given.now c.requires.0 c.requires.1 (bytes_known c.args.given.now (λ n. (c.type_inv.given n).fits)) c.loop-lo.lo c.loop-lo.hi (middle c) c.loop-lo.invariant.2 (omega arith) (omega arith)
-      (sym c.is_below.ensures ∙ c.if-is_below.false),
-)
+loop-lo-preserved c =
+    let a = c.args in
+    let l = c.loop-lo in
+    (
+      omega arith,
+      omega arith,
+      Halves.halves_down a.book.now a.given.now c.requires.0 c.requires.1 (bytes_known a.given.now (λ n. (c.type_inv.given n).fits)) l.lo l.hi (l.lo + (l.hi - l.lo) / 2) l.invariant.2
+          (omega arith) (omega arith) (sym c.is_below.ensures ∙ c.if-is_below.false),
+    )
 
 pub returns : goal.returns
 returns c =
-    let q : c.loop-lo.hi ≡ c.loop-lo.lo = omega arith in
-    rw q at c.loop-lo.invariant.2
+    let end : c.loop-lo.hi ≡ c.loop-lo.lo = omega arith in
+    rw end at c.loop-lo.invariant.2
