@@ -24,7 +24,7 @@ const SHELF: usize = 16384;
 pub(crate) const ANSWERS: usize = 23;
 
 // A machine at noon.
-#[derive(Drop)]
+#[derive(Clone, Copy)]
 pub(crate) struct Machine {
     pub heard: u64,
     pub missed: u64,

@@ -67,7 +67,7 @@ fn has_address(chunks: &[u8], at: usize, address: &[u8]) -> bool
     if rest.len() < 32 {
         return false;
     }
-    check::same(&rest[0..32], address)
+    &rest[0..32] == address
 }
 
 // Where the cell at `at` ends, or `at` itself where it is not whole.

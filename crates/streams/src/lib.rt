@@ -22,8 +22,13 @@ pub fn read_full(reader: &mut impl Read, space: &mut [u8]) -> usize
     done
 }
 
-// Writes a line to standard error: what failed, as the caller names it, a colon and the system's words for the error.
-pub fn fail(rt: &(impl Eprint + AllocGlobal), what: &str, error: io::Error) -> io::Result<()> {
+// Writes a line to standard error: what failed, as the caller names it, a colon and the system's words for the error. Where that
+// fails too, nothing is said.
+pub fn fail(rt: &(impl Eprint + AllocGlobal), what: &str, error: io::Error) {
+    let _ = say_why(rt, what, error);
+}
+
+fn say_why(rt: &(impl Eprint + AllocGlobal), what: &str, error: io::Error) -> io::Result<()> {
     let text = format!(in rt.alloc(); "{error}")?;
     let words = words_alone(text.as_str());
     eprintln!(rt; "{what}: {words}")

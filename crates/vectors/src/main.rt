@@ -27,7 +27,7 @@ fn run_file(rt: &HostRuntime, space: &mut [u8]) -> io::Result<()> {
     match File::open(rt, path) {
         Ok(mut file) => Run::over(rt, &mut file, space)?.report(rt, path),
         Err(error) => {
-            fail(rt, path, error)?;
+            fail(rt, path, error);
             rt.write_all(b"No vector was run, since this file cannot be opened: keccak256.txt\n")
         }
     }

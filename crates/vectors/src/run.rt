@@ -109,7 +109,7 @@ impl Run {
     // Says what the file came to.
     pub(crate) fn report(self, rt: &(impl Print + Eprint + AllocGlobal), path: &str) -> io::Result<()> {
         if let Some(error) = self.failed {
-            fail(rt, path, error)?;
+            fail(rt, path, error);
             rt.write_all(b"The file could not be read to its end\n")?;
         }
         let tally = self.tally;
