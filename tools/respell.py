@@ -47,7 +47,7 @@ def declared(path, text):
         if re.match(r"(pub )?(use|mod|module)\b|--", line):
             continue
         found = DECLARED.match(line)
-        if found and not (goals and re.match(r"(tie|lts)\.|\{M : Type 1\}", found.group(4))):
+        if found and not (goals and re.match(r"(tie|lts|goal)\.|\{M : Type 1\}", found.group(4))):
             yield found.group(2)
         found = MEMBER.match(line)
         if found and not goals:
@@ -97,7 +97,7 @@ def main():
     # A lemma that would have its definition's name is told from it by an ending.
     taken = {n for p, t in texts.items() for n in declared(p, t)} - set(names) | {v for k, v in names.items() if "-" not in k}
     names |= {k: v + "_lem" for k, v in names.items() if "-" in k and v in taken}
-    names |= AT_ONCE
+    names |= {k: v for k, v in AT_ONCE.items() if any(snake(n) == k for n in names)}
     together = {}
     for old, new in names.items():
         together.setdefault(new, set()).add(old)

@@ -1,5 +1,6 @@
 // What the programs need of files and streams beyond std: as many bytes as there is room for, and why a call failed.
 #![tactic(auto)]
+
 ghost use Rattle.streams.specs.Counts.{IsPrefixLen};
 
 use std::io;

@@ -27,11 +27,7 @@ impl Run {
     }
 
     // A proved loop has to end, and nothing says that a file does: the turns count down from a number that no run uses up.
-    pub(crate) fn over(
-        rt: &impl Print,
-        file: &mut impl Read,
-        space: &mut [u8],
-    ) -> io::Result<Run> {
+    pub(crate) fn over(rt: &impl Print, file: &mut impl Read, space: &mut [u8]) -> io::Result<Run> {
         let mut run = Run::new();
         for _ in 0..u64::MAX {
             if !run.open {
@@ -44,12 +40,7 @@ impl Run {
     }
 
     // Reads once. A line that a failure cuts short is not judged.
-    fn read(
-        mut self,
-        rt: &impl Print,
-        file: &mut impl Read,
-        space: &mut [u8],
-    ) -> io::Result<Run> {
+    fn read(mut self, rt: &impl Print, file: &mut impl Read, space: &mut [u8]) -> io::Result<Run> {
         let mut bytes = [0u8; 4096];
         match file.read(&mut bytes) {
             Ok(0) => {
@@ -107,7 +98,11 @@ impl Run {
     }
 
     // Says what the file came to.
-    pub(crate) fn report(self, rt: &(impl Print + Eprint + AllocGlobal), path: &str) -> io::Result<()> {
+    pub(crate) fn report(
+        self,
+        rt: &(impl Print + Eprint + AllocGlobal),
+        path: &str,
+    ) -> io::Result<()> {
         if let Some(error) = self.failed {
             fail(rt, path, error);
             rt.write_all(b"The file could not be read to its end\n")?;

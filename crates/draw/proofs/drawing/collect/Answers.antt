@@ -31,7 +31,7 @@ overflow_add-at c =
     let a = c.args in
     let l = c.loop-i in
     let turned = walk_turn a.book.now a.shelf.now a.anchor.now c.count-records.result l.best l.at l.held l.i l.invariant (omega arith)
-        c.take_cell-taken.result _ _ c.record_at-record.ensures c.take_cell-taken.ensures (sym c.is_done.ensures ∙ c.if-not-is_done.false) in
+    c.take_cell-taken.result _ _ c.record_at-record.ensures c.take_cell-taken.ensures (sym c.is_done.ensures ∙ c.if-not-is_done.false) in
     omega (arith, turned.inside)
 
 pub loop-i-preserved : goal.loop-i-preserved

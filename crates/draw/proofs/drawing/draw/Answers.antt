@@ -26,5 +26,5 @@ returns c =
     let lent = sym c.lent_answer-lent.ensures ∙ is_done_lem c.lent_answer-lent.result (sym c.is_done.ensures ∙ c.if-not-is_done.false) in
     let w = lent_done a.book.now a.anchor.now a.sample.now lent in
     let out = handed_on a.book.now a.shelf.now a.anchor.now a.sample.now c.collect-collected.result c.collect-collected.new.best c.commit-commitment.result c.commit-commitment.new.sample
-        lent w.sample1024 (search rules) c.collect-collected.ensures c.commit-commitment.ensures.result c.commit-commitment.ensures.bytes in
+    lent w.sample1024 (search rules) c.collect-collected.ensures c.commit-commitment.ensures.result c.commit-commitment.ensures.bytes in
     record { result = out.0; bytes = out.1 }

@@ -29,8 +29,7 @@ overflow_add-kept c =
 pub loop-depth-preserved : goal.loop-depth-preserved
 loop-depth-preserved c =
     let a = c.args in
-    let inner = c.loop-depth.invariant.2 (omega (arith, c.loop-depth.invariant.1)) in
-    (
+    let inner = c.loop-depth.invariant.2 (omega (arith, c.loop-depth.invariant.1)) in (
       c.loop-depth.invariant.0,
       omega (arith, c.loop-depth.invariant.1),
       λ h. descent_next a.capacity a.counters a.from c.loop-depth.depth c.loop-depth.kept inner (omega arith) (omega arith),

@@ -27,8 +27,7 @@ is_below-requires c = (omega (arith, c.loop-lo.invariant.1, c.requires.0.count, 
 pub loop-lo-preserved-then-is_below : goal.loop-lo-preserved-then-is_below
 loop-lo-preserved-then-is_below c =
     let a = c.args in
-    let l = c.loop-lo in
-    (
+    let l = c.loop-lo in (
       omega arith,
       omega arith,
       Halves.halves_up a.book.now a.given.now c.requires.0 c.requires.1 (bytes_known a.given.now (λ n. (c.type_inv.given n).fits)) l.lo l.hi (l.lo + (l.hi - l.lo) / 2) l.invariant.2
@@ -38,8 +37,7 @@ loop-lo-preserved-then-is_below c =
 pub loop-lo-preserved : goal.loop-lo-preserved
 loop-lo-preserved c =
     let a = c.args in
-    let l = c.loop-lo in
-    (
+    let l = c.loop-lo in (
       omega arith,
       omega arith,
       Halves.halves_down a.book.now a.given.now c.requires.0 c.requires.1 (bytes_known a.given.now (λ n. (c.type_inv.given n).fits)) l.lo l.hi (l.lo + (l.hi - l.lo) / 2) l.invariant.2

@@ -25,5 +25,5 @@ pub returns : goal.returns
 returns c =
     let a = c.args in
     let out = handed_out a.best.now a.held a.sample.now c.if-held-ne16.false c.if-best-ne1024.false c.if-sample-ne1024.false
-        c.write_out.new.sample c.address-committed.result (c.write_out.auto.sample ∙ c.if-sample-ne1024.false) c.write_out.ensures c.address-committed.ensures in
+    c.write_out.new.sample c.address-committed.result (c.write_out.auto.sample ∙ c.if-sample-ne1024.false) c.write_out.ensures c.address-committed.ensures in
     record { result = out.0; bytes = out.1 }

@@ -9,7 +9,7 @@ use Rattle.octets.specs.Number.{big_at}
 use Rattle.octets.specs.Pieces.{pieces}
 use Rattle.book.specs.Layout.{state_in, starting_in, depth_in, overlay_in, capacity_in, count_in, records_in}
 use Rattle.wellformed.specs.Check.{sized, levelled, zeros}
-use Rattle.wellformed.proofs.Tests.{bothHold}
+use Rattle.wellformed.proofs.Tests.{both_hold}
 use Rattle.wellformed.proofs.Tested.{sized_true}
 use Rattle.book.proofs.Fields
 use Rattle.wellformed.proofs.Verdicts
@@ -27,8 +27,8 @@ module _ (s : List ℕ) (h : 48 ≤ length s) (count : ℕ) (q : count ≡ big_a
       → r ≡ levelled (state_in s) (starting_in s) (depth_in s) (count_in s)
   levels starting depth r p d e = e ∙ rw (p, d, counted)
 
-  stand : (r : Bool) → r ≡ bothHold (depth_in s) (overlay_in s) (pieces 145 count (drop 48 s)) → r ≡ bothHold (depth_in s) (overlay_in s) (records_in s)
-  stand r e = e ∙ ap (λ (n : ℕ). bothHold (depth_in s) (overlay_in s) (pieces 145 n (drop 48 s))) counted
+  stand : (r : Bool) → r ≡ both_hold (depth_in s) (overlay_in s) (pieces 145 count (drop 48 s)) → r ≡ both_hold (depth_in s) (overlay_in s) (records_in s)
+  stand r e = e ∙ ap (λ (n : ℕ). both_hold (depth_in s) (overlay_in s) (pieces 145 n (drop 48 s))) counted
 
   zero : (r : Bool) → r ≡ zeros (drop (48 + 145 * count) s) → r ≡ zeros (drop (48 + 145 * count_in s) s)
   zero r e = e ∙ ap (λ (n : ℕ). zeros (drop (48 + 145 * n) s)) counted
