@@ -12,8 +12,8 @@ use std::process::{Child, Command, Stdio};
 
 /// The built program, on that standard input; run by EMULATOR where that is set, since it is for x86-64.
 fn started(input: Stdio) -> Child {
-    let program = Path::new(env!("CARGO_MANIFEST_DIR")).join("../../target/bin/list");
-    assert!(program.is_file(), "target/bin/list is missing: run `rt check list` first");
+    let program = Path::new(env!("CARGO_MANIFEST_DIR")).join("../../crates/list/out/list");
+    assert!(program.is_file(), "crates/list/out/list is missing: run `rt run` in crates/list first");
     let mut command = match std::env::var_os("EMULATOR") {
         Some(emulator) => {
             let mut command = Command::new(emulator);
