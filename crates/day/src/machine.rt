@@ -1,7 +1,7 @@
 // One machine: it hears offers, keeps its book by them, and draws at noon.
 ghost use Rattle.std.specs.Prelude.{◌≤◌, length};
 
-use crate::shelf::shelve;
+use crate::shelved::shelve;
 use crate::stock::{OFFER, heard_count, heard_place, missed};
 use book::header::{count, depth};
 use draw::draw;

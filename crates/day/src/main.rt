@@ -5,7 +5,7 @@ mod file;
 mod hashes;
 mod machine;
 mod report;
-mod shelf;
+mod shelved;
 mod stock;
 mod text;
 
@@ -60,7 +60,7 @@ fn with_places(
     ) {
         return Ok(());
     }
-    if !shelf::all_whole(chunks) {
+    if !shelved::all_whole(chunks) {
         blame(rt, "chunks", "is damaged: it ends inside a chunk");
         return Ok(());
     }

@@ -1,6 +1,6 @@
 -- No cell ends behind the last byte.
 use Rattle.std.proofs.Common.{length, ◌-◌, ◌≤◌}
-use Rattle.day.proofs.shelf.cell_of.Given as goal
+use Rattle.day.proofs.shelved.cell_of.Given as goal
 
 abbrev pub invariant-loop-at : goal.invariant-loop-at
 invariant-loop-at l = l.at ≤ length l.chunks
