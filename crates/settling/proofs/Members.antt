@@ -17,6 +17,7 @@ use Rattle.settling.proofs.Inside.{inside_nil, inside_in_lem, inside_out, enter_
 pub each_member : {A : Type 0} (P : A → Type 0) (r : A) (l : List A) → Each P l → Memᴰ r l → P r
 each_member P r (q ∷ l) o (Memᴰ.head e) = rw e o.0
 each_member P r (q ∷ l) o (Memᴰ.tail m) = each_member P r l o.1 m
+each_member P r [] o never = elim never [ ]
 
 module _ {A : Type 0} (B : Shape A) where
   open B use {slot, beats, near, rank}
@@ -50,6 +51,7 @@ module _ {A : Type 0} (B : Shape A) where
   ascending_one r q (h ∷ t) o (Memᴰ.head e) (Memᴰ.tail n) s = absurd (omega (arith, each_member (λ x. slot h < slot x) q t o.0 n, ap slot e))
   ascending_one r q (h ∷ t) o (Memᴰ.tail m) (Memᴰ.head f) s = absurd (omega (arith, each_member (λ x. slot h < slot x) r t o.0 m, ap slot f))
   ascending_one r q (h ∷ t) o (Memᴰ.tail m) (Memᴰ.tail n) s = ascending_one r q t o.1 m n s
+  ascending_one r q [] o never _ s = elim never [ ]
 
   pub ascending_equal : (l m : List A) → Ascending B l → Ascending B m → ((a : A) → Memᴰ a l → Memᴰ a m) → ((a : A) → Memᴰ a m → Memᴰ a l) → l ≡ m
   ascending_equal l m o p f g = sym (enter_all_ascending B l o) ∙ enter_all_same B [] l m f g ∙ enter_all_ascending B m p
