@@ -15,10 +15,6 @@ pub loop-next-init : goal.loop-next-init
 loop-next-init c =
     (omega arith, ap length c.requires.1, refl, subst (λ (t : List ℕ). Rows c.args.prefix.now 0 t) (sym c.requires.1) (rows_none c.args.prefix.now))
 
-pub loop-next-smaller : goal.loop-next-smaller
-loop-next-smaller c =
-    omega (arith, width_tells (suc c.loop-next.level) 7 (omega arith))
-
 pub loop-next-preserved : goal.loop-next-preserved
 loop-next-preserved c =
     let x = c.args in

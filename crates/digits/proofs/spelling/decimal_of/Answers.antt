@@ -28,9 +28,11 @@ pub returns : goal.returns
 returns c =
     let i = c.loop-above.from - 1 in
     let from : suc i ≡ c.loop-above.from = omega arith in
-    let size : length (set c.loop-above.bytes i c.digit-2.result) ≡ 20 = simp length-set c.loop-above.invariant.0 in (
-      Letters.all_spelled c.args.n i (set c.loop-above.bytes i c.digit-2.result) size (omega arith)
+    let size : length (set c.loop-above.bytes i c.digit-2.result) ≡ 20 = simp length-set c.loop-above.invariant.0 in
+    record {
+      value =
+          Letters.all_spelled c.args.n i (set c.loop-above.bytes i c.digit-2.result) size (omega arith)
           (Letters.zeros_before c.loop-above.bytes i c.loop-above.from c.digit-2.result (omega arith) c.loop-above.invariant.5)
-          (rw c.digit-2.ensures (Letters.the_last c.loop-above.bytes i (omega arith) c.loop-above.above (omega arith) ∙ rw from c.loop-above.invariant.4)),
-      (omega arith, omega (arith, size)),
-    )
+          (rw c.digit-2.ensures (Letters.the_last c.loop-above.bytes i (omega arith) c.loop-above.above (omega arith) ∙ rw from c.loop-above.invariant.4));
+      from_bound = (omega arith, omega (arith, size));
+    }

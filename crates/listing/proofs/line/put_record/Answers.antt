@@ -16,24 +16,24 @@ use Rattle.listing.proofs.line.put_record.Goals as goal
 
 pub put_hex-near-requires : goal.put_hex-near-requires
 put_hex-near-requires c =
-    let reached : (c.put_number-address.result ≤ c.args.at + 72) × (c.put_number-address.result + 54 < length c.put_number-address.new.0) × (length c.put_number-address.new.0 ≡ length c.args.out.now) × (length c.args.held.now ≡ 145) = let end : c.put_number-address.result ≤ c.args.at + 72 = omega (arith, c.put_hex-bucket.ensures.upper_bound, c.put_number-index.ensures.upper_bound, c.put_number-time.ensures.upper_bound, c.put_number-address.ensures.upper_bound) in let size : length c.put_number-address.new.0 ≡ length c.args.out.now = c.put_number-address.ensures.put.size ∙ c.put_number-time.ensures.put.size ∙ c.put_number-index.ensures.put.size ∙ c.put_hex-bucket.ensures.put.size in (end, omega (arith, end, size, c.requires.0), size, c.requires.1) in
+    let reached : (c.put_number-address.result ≤ c.args.at + 72) × (c.put_number-address.result + 54 < length c.put_number-address.new.out) × (length c.put_number-address.new.out ≡ length c.args.out.now) × (length c.args.held.now ≡ 145) = let end : c.put_number-address.result ≤ c.args.at + 72 = omega (arith, c.put_hex-bucket.ensures.upper_bound, c.put_number-index.ensures.upper_bound, c.put_number-time.ensures.upper_bound, c.put_number-address.ensures.upper_bound) in let size : length c.put_number-address.new.out ≡ length c.args.out.now = c.put_number-address.ensures.put.size ∙ c.put_number-time.ensures.put.size ∙ c.put_number-index.ensures.put.size ∙ c.put_hex-bucket.ensures.put.size in (end, omega (arith, end, size, c.requires.0), size, c.requires.1) in
     let r = reached in (omega (arith, r.1), omega (arith, r.3))
 
 pub put_number-requires : goal.put_number-requires
 put_number-requires c =
-    let reached : (c.put_number-address.result ≤ c.args.at + 72) × (c.put_number-address.result + 54 < length c.put_number-address.new.0) × (length c.put_number-address.new.0 ≡ length c.args.out.now) × (length c.args.held.now ≡ 145) = let end : c.put_number-address.result ≤ c.args.at + 72 = omega (arith, c.put_hex-bucket.ensures.upper_bound, c.put_number-index.ensures.upper_bound, c.put_number-time.ensures.upper_bound, c.put_number-address.ensures.upper_bound) in let size : length c.put_number-address.new.0 ≡ length c.args.out.now = c.put_number-address.ensures.put.size ∙ c.put_number-time.ensures.put.size ∙ c.put_number-index.ensures.put.size ∙ c.put_hex-bucket.ensures.put.size in (end, omega (arith, end, size, c.requires.0), size, c.requires.1) in
+    let reached : (c.put_number-address.result ≤ c.args.at + 72) × (c.put_number-address.result + 54 < length c.put_number-address.new.out) × (length c.put_number-address.new.out ≡ length c.args.out.now) × (length c.args.held.now ≡ 145) = let end : c.put_number-address.result ≤ c.args.at + 72 = omega (arith, c.put_hex-bucket.ensures.upper_bound, c.put_number-index.ensures.upper_bound, c.put_number-time.ensures.upper_bound, c.put_number-address.ensures.upper_bound) in let size : length c.put_number-address.new.out ≡ length c.args.out.now = c.put_number-address.ensures.put.size ∙ c.put_number-time.ensures.put.size ∙ c.put_number-index.ensures.put.size ∙ c.put_hex-bucket.ensures.put.size in (end, omega (arith, end, size, c.requires.0), size, c.requires.1) in
     let r = reached in
     omega (arith, r.1, c.put_hex-near.ensures.put.size, c.put_hex-near.ensures.upper_bound)
 
 pub shape_of-out : goal.shape_of-out
 shape_of-out c =
-    let reached : (c.put_number-address.result ≤ c.args.at + 72) × (c.put_number-address.result + 54 < length c.put_number-address.new.0) × (length c.put_number-address.new.0 ≡ length c.args.out.now) × (length c.args.held.now ≡ 145) = let end : c.put_number-address.result ≤ c.args.at + 72 = omega (arith, c.put_hex-bucket.ensures.upper_bound, c.put_number-index.ensures.upper_bound, c.put_number-time.ensures.upper_bound, c.put_number-address.ensures.upper_bound) in let size : length c.put_number-address.new.0 ≡ length c.args.out.now = c.put_number-address.ensures.put.size ∙ c.put_number-time.ensures.put.size ∙ c.put_number-index.ensures.put.size ∙ c.put_hex-bucket.ensures.put.size in (end, omega (arith, end, size, c.requires.0), size, c.requires.1) in
+    let reached : (c.put_number-address.result ≤ c.args.at + 72) × (c.put_number-address.result + 54 < length c.put_number-address.new.out) × (length c.put_number-address.new.out ≡ length c.args.out.now) × (length c.args.held.now ≡ 145) = let end : c.put_number-address.result ≤ c.args.at + 72 = omega (arith, c.put_hex-bucket.ensures.upper_bound, c.put_number-index.ensures.upper_bound, c.put_number-time.ensures.upper_bound, c.put_number-address.ensures.upper_bound) in let size : length c.put_number-address.new.out ≡ length c.args.out.now = c.put_number-address.ensures.put.size ∙ c.put_number-time.ensures.put.size ∙ c.put_number-index.ensures.put.size ∙ c.put_hex-bucket.ensures.put.size in (end, omega (arith, end, size, c.requires.0), size, c.requires.1) in
     c.put_number.ensures.put.size ∙ c.put_hex-near.ensures.put.size ∙ reached.2
 
 pub returns : goal.returns
 unfolding record_line line
 returns c =
-    let reached : (c.put_number-address.result ≤ c.args.at + 72) × (c.put_number-address.result + 54 < length c.put_number-address.new.0) × (length c.put_number-address.new.0 ≡ length c.args.out.now) × (length c.args.held.now ≡ 145) = let end : c.put_number-address.result ≤ c.args.at + 72 = omega (arith, c.put_hex-bucket.ensures.upper_bound, c.put_number-index.ensures.upper_bound, c.put_number-time.ensures.upper_bound, c.put_number-address.ensures.upper_bound) in let size : length c.put_number-address.new.0 ≡ length c.args.out.now = c.put_number-address.ensures.put.size ∙ c.put_number-time.ensures.put.size ∙ c.put_number-index.ensures.put.size ∙ c.put_hex-bucket.ensures.put.size in (end, omega (arith, end, size, c.requires.0), size, c.requires.1) in
+    let reached : (c.put_number-address.result ≤ c.args.at + 72) × (c.put_number-address.result + 54 < length c.put_number-address.new.out) × (length c.put_number-address.new.out ≡ length c.args.out.now) × (length c.args.held.now ≡ 145) = let end : c.put_number-address.result ≤ c.args.at + 72 = omega (arith, c.put_hex-bucket.ensures.upper_bound, c.put_number-index.ensures.upper_bound, c.put_number-time.ensures.upper_bound, c.put_number-address.ensures.upper_bound) in let size : length c.put_number-address.new.out ≡ length c.args.out.now = c.put_number-address.ensures.put.size ∙ c.put_number-time.ensures.put.size ∙ c.put_number-index.ensures.put.size ∙ c.put_hex-bucket.ensures.put.size in (end, omega (arith, end, size, c.requires.0), size, c.requires.1) in
     let near = c.bits-bits.ensures ∙ ap bits_in c.nearness.ensures ∙ Fields.near_there (address_in c.args.held.now) c.args.overlay.now (part_length c.args.held.now 48 32 (omega arith)) c.requires.2 in
     let fourth = reached in
     let text =

@@ -12,10 +12,11 @@ pub returns-then-overfull : goal.returns-then-overfull
 unfolding state_word
 returns-then-overfull c =
     let e : eqb (state_in c.args.book.now) 1 ≡ true = sym c.overfull.ensures ∙ c.if-overfull.true in
-    rw e (c.put_field.ensures, Puts.put_within overfull space 8 (omega arith) c.put_field.ensures)
+    rw e (record { put = c.put_field.ensures; upper_bound = Puts.put_within overfull space 8 (omega arith) c.put_field.ensures })
 
 pub returns : goal.returns
 unfolding state_word
 returns c =
     let e : eqb (state_in c.args.book.now) 1 ≡ false = sym c.overfull.ensures ∙ c.if-overfull.false in
-    rw e (c.put_field-2.ensures, omega (arith, Puts.put_within good space 4 (omega arith) c.put_field-2.ensures))
+    rw e
+    (record { put = c.put_field-2.ensures; upper_bound = omega (arith, Puts.put_within good space 4 (omega arith) c.put_field-2.ensures) })

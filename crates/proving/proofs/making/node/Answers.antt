@@ -9,13 +9,6 @@ use Rattle.merkle.proofs.Stretch.{pad_from}
 use Rattle.tree.proofs.Within.{root_within}
 use Rattle.proving.proofs.making.node.Goals as goal
 
-pub overflow_mul-n : goal.overflow_mul-n
-overflow_mul-n c =
-    let x = c.args in
-    let w : (32 * 2 ^ x.level) % 2 ^ 64 ≡ width x.level = shl_exact 6 x.level 64 (omega arith) (omega arith) in
-    let e : x.n * ((32 * 2 ^ x.level) % 2 ^ 64) ≡ x.n * width x.level = ap (λ (k : ℕ). x.n * k) w in
-    record { fits = omega arith }
-
 pub returns : goal.returns
 returns c =
     let x = c.args in

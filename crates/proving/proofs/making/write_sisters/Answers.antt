@@ -1,7 +1,6 @@
 use mathlib.Core.Path.{◌≡◌, sym, ap, subst, ◌∙◌}
 use mathlib.Core.List.{◌++◌, append-nil}
-use Prim.Native.Nat.{ℕ, ◌+◌, ◌*◌, ◌^◌}
-use native.Mathlib.Nat.{div-le_self}
+use Prim.Native.Nat.{ℕ, ◌+◌, ◌*◌}
 use native.Mathlib.Omega.{arith}
 use borrow.Author.Rules.{rules}
 use lib.ListN.{length, take}
@@ -14,9 +13,6 @@ use Rattle.proving.proofs.making.write_sisters.Goals as goal
 pub loop-level-init : goal.loop-level-init
 unfolding sisters
 loop-level-init c = (omega arith, search rules, sym (append-nil (take 32 c.args.proof.now)))
-
-pub beside-requires : goal.beside-requires
-beside-requires c = omega (arith, div-le_self c.args.index (2 ^ c.loop-level.level))
 
 pub node-sister-requires : goal.node-sister-requires
 node-sister-requires c =

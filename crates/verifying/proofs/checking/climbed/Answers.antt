@@ -32,9 +32,3 @@ loop-level-preserved c =
           ∙ ap₂ (λ (a b : List ℕ). hash p (paired (side x.index c.loop-level.level) a b)) c.loop-level.invariant.2 (ap (λ (k : ℕ). take k (drop (32 + 32 * c.loop-level.level) s)) w)
           ∙ ap (climbed p x.index s) (sym (add-one c.loop-level.level)),
     )
-
-pub returns : goal.returns
-returns c =
-    let x = c.args in
-    let e : c.loop-level.level ≡ 7 = omega arith in
-    c.loop-level.invariant.2 ∙ ap (climbed x.prefix.now x.index x.proof.now) e

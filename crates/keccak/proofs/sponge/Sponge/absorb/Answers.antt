@@ -8,10 +8,6 @@ use Rattle.keccak.specs.Sponge.{absorbed}
 use Rattle.keccak.proofs.Step.{word_begins, three_parts, stretches, absorbed_in}
 use Rattle.keccak.proofs.sponge.Sponge.absorb.Goals as goal
 
-pub returns-then-part-lead : goal.returns-then-part-lead
-returns-then-part-lead c =
-    c.bytes.ensures ∙ ap (λ (s : Sponge). absorbed s c.args.part.now) c.usable-s.ensures.0
-
 pub words-whole-requires : goal.words-whole-requires
 words-whole-requires c =
     let k : ℕ = (8 - c.usable-s.result.place % 8) % 8 in

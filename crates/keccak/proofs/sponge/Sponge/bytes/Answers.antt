@@ -1,6 +1,5 @@
-use mathlib.Core.Path.{refl, ap, ap₂, ◌∙◌}
+use mathlib.Core.Path.{refl, ap₂, ◌∙◌}
 use native.Mathlib.Omega.{arith}
-use lib.Seq.{take_all}
 use Rattle.keccak.specs.Sponge.{sponge, absorbed}
 use Rattle.keccak.proofs.Step.{byte_full, byte_next}
 use Rattle.keccak.proofs.sponge.Sponge.bytes.Goals as goal
@@ -29,7 +28,3 @@ loop-i-preserved c =
             w.if-place-eq-RATE.false,
       )
     ]
-
-pub returns : goal.returns
-returns c =
-    c.loop-i.invariant.2 ∙ ap (absorbed _) (take_all c.loop-i.i _ (omega arith))

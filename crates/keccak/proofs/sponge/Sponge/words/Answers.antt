@@ -2,7 +2,6 @@ use mathlib.Core.Path.{refl, ap, ap₂, ◌∙◌}
 use Prim.Native.Nat.{◌+◌, ◌≤◌}
 use native.Mathlib.Omega.{arith}
 use lib.ListN.{length, length-set}
-use lib.Seq.{take_all}
 use Rattle.octets.proofs.Bytes.{bytes_known}
 use Rattle.permutation.proofs.Rounds.{permute_length}
 use Rattle.keccak.specs.Sponge.{sponge, absorbed}
@@ -43,7 +42,3 @@ loop-i-preserved c =
             c.loop-i.invariant.3 h known c.read_little64.ensures c.loop-i.invariant.5 w.if-place-eq-RATE.false,
       )
     ]
-
-pub returns : goal.returns
-returns c =
-    c.loop-i.invariant.5 ∙ ap (absorbed _) (take_all c.loop-i.i _ (omega arith))
