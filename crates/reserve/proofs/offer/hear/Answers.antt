@@ -3,6 +3,7 @@ use mathlib.Core.Path.{◌≡◌, sym, ap, ◌∙◌}
 use mathlib.Core.List.{List}
 use mathlib.Core.Bool.{Bool, false}
 use lib.Dec.{eqb}
+use Rattle.std.proofs.Common.{rules, ℕ, get_or, Fits, w8}
 use native.Mathlib.Omega.{arith}
 use borrow.Author.Tests.{eqb-true, eqb-false}
 use Rattle.octets.proofs.Bytes.{bytes_known}
@@ -37,9 +38,10 @@ pub take-requires : goal.take-requires
 take-requires c =
     let a = c.args in
     let passes = Stamped.stamp_answered a.batches.now a.address.now a.stamp.now a.account.now _ Passes c.check_stamp.ensures c.in-Passes.is in
+    let known : (n : ℕ) → Fits w8 (get_or a.book.now n 0) = search rules in
     let long = Stamped.stamp_lengths a.batches.now a.address.now a.stamp.now a.account.now passes in (
       record {
-        bytes = bytes_known a.book.now (λ n. (c.type_inv.book n).fits);
+        bytes = bytes_known a.book.now (λ n. (known n).fits);
         formed = c.requires;
         good = fine a.book.now a.batches.now a.address.now a.stamp.now a.account.now c.requires _ c.overfull.ensures c.if-overfull.false;
         fits = Stamped.stamp_fits a.batches.now a.address.now a.stamp.now a.account.now (bytes_known a.address.now (λ n. (c.type_inv.address n).fits))

@@ -1,5 +1,6 @@
 -- 13 first.
 use mathlib.Core.Path.{sym, ap, ◌∙◌}
+use Rattle.std.proofs.Common.{rules, ℕ, get_or, Fits, w8}
 use Rattle.octets.proofs.Bytes.{bytes_known}
 use Rattle.reserve.specs.Offer.{Ended}
 use Rattle.wellformed.proofs.Tested.{said}
@@ -9,7 +10,8 @@ use Rattle.reserve.proofs.offer.offer.Goals as goal
 
 pub hear-requires : goal.hear-requires
 hear-requires c =
-    said c.args.book.now (bytes_known c.args.book.now (λ n. (c.type_inv.book n).fits)) (Verdicts.formed_as c.args.book.now (sym c.check_book.ensures ∙ c.in-WellFormed.is))
+    let known : (n : ℕ) → Fits w8 (get_or c.args.book.now n 0) = search rules in
+    said c.args.book.now (bytes_known c.args.book.now (λ n. (known n).fits)) (Verdicts.formed_as c.args.book.now (sym c.check_book.ensures ∙ c.in-WellFormed.is))
 
 pub returns-in-NotWellFormed : goal.returns-in-NotWellFormed
 returns-in-NotWellFormed c =
