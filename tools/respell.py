@@ -20,6 +20,8 @@ IMPORT = re.compile(r"use ([^\s{;]+)\.\{([^}]*)\}")
 KEPT = {"C", "D", "RC"}  # the Keccak team's own names
 AT_ONCE = {"is_same": "is_same_lem", "pair_read": "pair_read_lem"}  # lemmas that port.py spelled as the definition they speak of will be
 
+FIELDS = {"in-bucket": "own_bucket"}  # a field beside a definition of its name
+
 
 def snake(name):
     if not name[:1].islower():
@@ -96,7 +98,7 @@ def main():
                 names[name] = new
     # A lemma that would have its definition's name is told from it by an ending.
     taken = {n for p, t in texts.items() for n in declared(p, t)} - set(names) | {v for k, v in names.items() if "-" not in k}
-    names |= {k: v + "_lem" for k, v in names.items() if "-" in k and v in taken}
+    names |= {k: FIELDS.get(k, v + "_lem") for k, v in names.items() if "-" in k and v in taken}
     names |= {k: v for k, v in AT_ONCE.items() if any(snake(n) == k for n in names)}
     together = {}
     for old, new in names.items():
