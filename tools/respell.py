@@ -19,7 +19,6 @@ MEMBER = re.compile(r"^\s+(?:(?:pub|abbrev|unfoldable)\s+)*([^\s(){}\[\],;.:\"]+
 IMPORT = re.compile(r"use ([^\s{;]+)\.\{([^}]*)\}")
 KEPT = {"C", "D", "RC"}  # the Keccak team's own names
 AT_ONCE = {"is_same": "is_same_lem", "pair_read": "pair_read_lem"}  # lemmas that port.py spelled as the definition they speak of will be
-
 FIELDS = {"in-bucket": "own_bucket"}  # a field beside a definition of its name
 
 
