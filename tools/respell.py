@@ -118,7 +118,7 @@ def main():
         out[path] = "\n".join(of_line(line, here, comment) for line in text.split("\n"))
     # Pages and edits name what port.py respelled too.
     new = {names.get(n, n) for p, t in texts.items() if p.endswith(".antt") for n in declared(p, t)}
-    pages = ["README.md", *sorted(glob.glob("docs/*.md"))]
+    pages = ["README.md", *sorted(set(glob.glob("docs/*.md")) - {"docs/PORT.md"})]
     edits = sorted(glob.glob("crates/*/must-fail/*.edit"))
     for word in {w for p in pages + edits for w in WORD.findall(open(p, encoding="utf-8").read())}:
         if word not in names and word not in new and snake(word) in new:
