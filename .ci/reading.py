@@ -29,6 +29,7 @@ class Item:
         self.parameters = re.findall(r'\bself\b|\b\w+(?=\s*:(?!:))', signature)
         self.written = [a or b for a, b in re.findall(r"\b(\w+)\s*:\s*&(?:'\w+\s+)?mut\b|&(?:'\w+\s+)?mut\s+(self)\b", signature)]
         self.hands_back = '->' in signature
+        self.streams = re.search(r'\bimpl \(?(?:Read|Write|Print|Eprint)\b', signature) is not None
         self.name = '::'.join((crate,) + path)
 
     def answers(self, mention):

@@ -15,10 +15,11 @@ import sys
 
 WORD = re.compile(r"[^\s(){}\[\],;.:\"`]+")
 DECLARED = re.compile(r"^((?:[a-z]+ +)*)([^\s(){}\[\],;.:\"]+)((?:\s+[({].*?[)}])*)\s+:\s*(.*)$")
-MEMBER = re.compile(r"^\s+(?:pub\s+)?([^\s(){}\[\],;.:\"]+)\s+:\s")
+MEMBER = re.compile(r"^\s+(?:(?:pub|abbrev|unfoldable)\s+)*([^\s(){}\[\],;.:\"]+)\s+:(?:\s|$)")
 IMPORT = re.compile(r"use ([^\s{;]+)\.\{([^}]*)\}")
 KEPT = {"C", "D", "RC"}  # the Keccak team's own names
 AT_ONCE = {"is_same": "is_same_lem", "pair_read": "pair_read_lem"}  # lemmas that port.py spelled as the definition they speak of will be
+FIELDS = {"in-bucket": "own_bucket"}  # a field beside a definition of its name
 
 
 def snake(name):
@@ -47,7 +48,7 @@ def declared(path, text):
         if re.match(r"(pub )?(use|mod|module)\b|--", line):
             continue
         found = DECLARED.match(line)
-        if found and not (goals and re.match(r"(tie|lts)\.|\{M : Type 1\}", found.group(4))):
+        if found and not (goals and re.match(r"(tie|lts|goal)\.|\{M : Type 1\}", found.group(4))):
             yield found.group(2)
         found = MEMBER.match(line)
         if found and not goals:
@@ -96,8 +97,8 @@ def main():
                 names[name] = new
     # A lemma that would have its definition's name is told from it by an ending.
     taken = {n for p, t in texts.items() for n in declared(p, t)} - set(names) | {v for k, v in names.items() if "-" not in k}
-    names |= {k: v + "_lem" for k, v in names.items() if "-" in k and v in taken}
-    names |= AT_ONCE
+    names |= {k: FIELDS.get(k, v + "_lem") for k, v in names.items() if "-" in k and v in taken}
+    names |= {k: v for k, v in AT_ONCE.items() if any(snake(n) == k for n in names)}
     together = {}
     for old, new in names.items():
         together.setdefault(new, set()).add(old)

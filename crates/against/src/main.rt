@@ -1,5 +1,6 @@
 // Runs every case of a file that the second program wrote, with the proved code, and says of each call how many are equal.
 #![tactic(auto)]
+
 mod books;
 mod case;
 mod chunks;
@@ -10,25 +11,25 @@ mod stamps;
 mod tally;
 mod trial;
 
-use libc::STDOUT_FILENO;
+use std::fs::File;
+use std::io;
+use streams::fail;
 
 // What a call hands back is laid in `came`, which takes any buffer that a case can hold, and what stands before it.
-fn main() {
+fn main(rt: HostRuntime) -> io::Result<()> {
     let mut space = [0u8; 65536];
     let mut came = [0u8; 65600];
-    let path = b"cases.bin";
-    let fd = os::open_read(path);
-    if fd < 0 {
-        os::fail(path);
-        io::write_all(
-            STDOUT_FILENO,
-            b"No case was run, since cases.bin cannot be opened\n",
-        );
-        return;
+    let path = "cases.bin";
+    let mut file = match File::open(&rt, path) {
+        Ok(file) => file,
+        Err(error) => {
+            fail(&rt, path, error);
+            return rt.write_all(b"No case was run, since cases.bin cannot be opened\n");
+        }
+    };
+    run::over(&rt, &mut file, &mut space, &mut came)?.report(&rt)?;
+    if run::goes_on(&mut file) {
+        rt.write_all(b"The file goes on behind its last case\n")?;
     }
-    run::over(fd, &mut space, &mut came).report();
-    if run::goes_on(fd) {
-        io::write_all(STDOUT_FILENO, b"The file goes on behind its last case\n");
-    }
-    libc::close(fd);
+    Ok(())
 }

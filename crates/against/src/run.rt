@@ -4,49 +4,57 @@ ghost use Rattle.std.specs.Prelude.{◌≤◌, length};
 use crate::tally::Tally;
 use crate::trial::tried;
 use octets::number::read32;
+use std::io;
+use std::io::Read;
+use streams::read_full;
 
 // Every case that the file names, or those up to its end.
-pub(crate) fn over(fd: i32, space: &mut [u8], came: &mut [u8]) -> Tally {
-    let named = number(fd);
+pub(crate) fn over(
+    rt: &impl Print,
+    file: &mut impl Read,
+    space: &mut [u8],
+    came: &mut [u8],
+) -> io::Result<Tally> {
+    let named = number(file);
     let mut tally = Tally::new(named as u64);
     let mut left = named;
     while left > 0 {
-        let size = next(fd, space);
+        let size = next(file, space);
         if size == 0 {
-            return tally;
+            return Ok(tally);
         }
         let case = &space[0..size];
-        let longer = tally.with(case[0], tried(case, came));
+        let longer = tally.with(rt, case[0], tried(case, came))?;
         tally = longer;
         left -= 1;
     }
-    tally
+    Ok(tally)
 }
 
 // Whether the file has a byte more.
-pub(crate) fn goes_on(fd: i32) -> bool {
+pub(crate) fn goes_on(file: &mut impl Read) -> bool {
     let mut byte = [0u8; 1];
-    io::read_full(fd, &mut byte) > 0
+    read_full(file, &mut byte) > 0
 }
 
 // The four bytes that come next, 0 where the file ends.
-fn number(fd: i32) -> u32 {
+fn number(file: &mut impl Read) -> u32 {
     let mut bytes = [0u8; 4];
-    if io::read_full(fd, &mut bytes) < 4 {
+    if read_full(file, &mut bytes) < 4 {
         return 0;
     }
     read32(&bytes, 0)
 }
 
 // Reads the next case to the start of the space: its length, 0 where the file ends or the case has no room.
-fn next(fd: i32, space: &mut [u8]) -> usize
+fn next(file: &mut impl Read, space: &mut [u8]) -> usize
     ensures { result ≤ length space.old }
 {
-    let size = number(fd) as usize;
+    let size = number(file) as usize;
     if space.len() < size {
         return 0;
     }
-    if io::read_full(fd, &mut space[0..size]) < size {
+    if read_full(file, &mut space[0..size]) < size {
         return 0;
     }
     size

@@ -2,7 +2,7 @@
 ghost use Rattle.std.specs.Prelude.{◌≤◌, length};
 
 use crate::trial::Outcome;
-use libc::STDOUT_FILENO;
+use std::io;
 use verdict::count::one_more;
 use verdict::equal::Verdict;
 
@@ -37,55 +37,56 @@ impl Tally {
     }
 
     // One case more, named where it is not as it should be.
-    pub(crate) fn with(mut self, call: u8, outcome: Outcome) -> Tally {
+    pub(crate) fn with(mut self, rt: &impl Print, call: u8, outcome: Outcome) -> io::Result<Tally> {
         self.run = one_more(self.run);
         match outcome {
-            Outcome::Judged(verdict) => self.judged(call, verdict),
+            Outcome::Judged(verdict) => self.judged(rt, call, verdict),
             Outcome::NotUnderstood => {
-                name(self.not_understood, self.run, b" is not understood\n");
+                name(rt, self.not_understood, self.run, b" is not understood\n")?;
                 self.not_understood = one_more(self.not_understood);
-                self
+                Ok(self)
             }
         }
     }
 
-    fn judged(mut self, call: u8, verdict: Verdict) -> Tally {
+    fn judged(mut self, rt: &impl Print, call: u8, verdict: Verdict) -> io::Result<Tally> {
         match verdict {
             Verdict::Equal => {
                 let equal = self.equal;
                 let counts = counted(equal, call);
                 self.equal = counts;
-                self
+                Ok(self)
             }
             Verdict::Differs => {
-                name(self.differing, self.run, b" differs\n");
+                name(rt, self.differing, self.run, b" differs\n")?;
                 let differ = self.differ;
                 let counts = counted(differ, call);
                 self.differ = counts;
                 self.differing = one_more(self.differing);
-                self
+                Ok(self)
             }
         }
     }
 
     // A line a call, then how many cases there were, and how many of them had no verdict.
-    pub(crate) fn report(self) {
+    pub(crate) fn report(self, rt: &impl Print) -> io::Result<()> {
         let equal = self.equal;
         let differ = self.differ;
         lines(
+            rt,
             b"keccak256: sponge: absorb: finish: address: anchored_address: segment_count: segment: make_proof: check_proof: \
 nearness: stamp_digest: check_stamp: open: check_book: higher: offer: draw: ",
             equal,
             differ,
-        );
-        self.last_lines();
+        )?;
+        self.last_lines(rt)
     }
 
-    fn last_lines(self) {
-        say(self.run, b" cases run of ");
-        say(self.named, b" that the file names\n");
-        say(self.differing, b" differ\n");
-        say(self.not_understood, b" not understood\n");
+    fn last_lines(self, rt: &impl Print) -> io::Result<()> {
+        say(rt, self.run, b" cases run of ")?;
+        say(rt, self.named, b" that the file names\n")?;
+        say(rt, self.differing, b" differ\n")?;
+        say(rt, self.not_understood, b" not understood\n")
     }
 }
 
@@ -98,21 +99,28 @@ fn counted(counts: [u64; CALLS], call: u8) -> [u64; CALLS] {
 }
 
 // Names a case, where few of its kind came before it.
-fn name(before: u64, case: u64, what: &[u8]) {
+fn name(rt: &impl Print, before: u64, case: u64, what: &[u8]) -> io::Result<()> {
     if before < FEW {
-        io::write_all(STDOUT_FILENO, b"case ");
-        say(case, what);
+        rt.write_all(b"case ")?;
+        say(rt, case, what)?;
     }
+    Ok(())
 }
 
 // A line for each call, whose names stand in a row.
-fn lines(names: &[u8], equal: [u64; CALLS], differ: [u64; CALLS]) {
+fn lines(
+    rt: &impl Print,
+    names: &[u8],
+    equal: [u64; CALLS],
+    differ: [u64; CALLS],
+) -> io::Result<()> {
     let mut at = 0;
     for call in 1..CALLS {
         let end = name_end(names, at);
-        line(&names[at..end], equal[call], differ[call]);
+        line(rt, &names[at..end], equal[call], differ[call])?;
         at = end;
     }
+    Ok(())
 }
 
 // Where the name that begins at a place ends, with the blank behind it.
@@ -131,14 +139,14 @@ fn name_end(names: &[u8], at: usize) -> usize
     end
 }
 
-fn line(call: &[u8], equal: u64, differ: u64) {
-    io::write_all(STDOUT_FILENO, call);
-    say(equal, b" equal, ");
-    say(differ, b" differ\n");
+fn line(rt: &impl Print, call: &[u8], equal: u64, differ: u64) -> io::Result<()> {
+    rt.write_all(call)?;
+    say(rt, equal, b" equal, ")?;
+    say(rt, differ, b" differ\n")
 }
 
 // Writes a number and what it counts.
-fn say(n: u64, what: &[u8]) {
-    io::print_decimal(STDOUT_FILENO, n);
-    io::write_all(STDOUT_FILENO, what);
+fn say(rt: &impl Print, n: u64, what: &[u8]) -> io::Result<()> {
+    print!(rt; "{n}")?;
+    rt.write_all(what)
 }

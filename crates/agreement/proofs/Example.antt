@@ -66,12 +66,14 @@ there : (o : Offer) → Memᴰ o these → Memᴰ o those
 there o (Memᴰ.head e) = Memᴰ.tail (Memᴰ.tail (Memᴰ.head e))
 there o (Memᴰ.tail (Memᴰ.head e)) = Memᴰ.tail (Memᴰ.head e)
 there o (Memᴰ.tail (Memᴰ.tail (Memᴰ.head e))) = Memᴰ.head e
+there o (Memᴰ.tail (Memᴰ.tail (Memᴰ.tail never))) = elim never [ ]
 
 back : (o : Offer) → Memᴰ o those → Memᴰ o these
 back o (Memᴰ.head e) = Memᴰ.tail (Memᴰ.tail (Memᴰ.head e))
 back o (Memᴰ.tail (Memᴰ.head e)) = Memᴰ.tail (Memᴰ.head e)
 back o (Memᴰ.tail (Memᴰ.tail (Memᴰ.head e))) = Memᴰ.head e
 back o (Memᴰ.tail (Memᴰ.tail (Memᴰ.tail (Memᴰ.head e)))) = Memᴰ.tail (Memᴰ.head e)
+back o (Memᴰ.tail (Memᴰ.tail (Memᴰ.tail (Memᴰ.tail never)))) = elim never [ ]
 
 same : SameOffers these those
 same = record { there = there; back = back }

@@ -11,7 +11,7 @@ use Rattle.octets.specs.Bytes.{Bytes}
 use Rattle.settling.specs.Meaning.{Each}
 use Rattle.opening.specs.declared.open.OpenAnswer.{OpenAnswer}
 use Rattle.opening.specs.declared.open.OpenAnswer.TheVariants.{Done, OutOfRange, WrongLength}
-use Rattle.opening.specs.Open.{in_range, fresh_book, left, openAnswer, openBytes, open_number}
+use Rattle.opening.specs.Open.{in_range, fresh_book, left, open_answer, open_bytes, open_number}
 use Rattle.histories.specs.Histories.{Openable, opened}
 use Rattle.opening.proofs.Opening.{in_range_lem, opens}
 
@@ -21,13 +21,13 @@ done Done e = refl
 done OutOfRange e = absurd (omega (arith, e))
 done WrongLength e = absurd (omega (arith, e))
 
-module _ (buffer overlay : List ℕ) (capacity starting : ℕ) (z : open_number (openAnswer buffer overlay capacity starting) ≡ 0) where
-  pub fresh_bytes : openBytes buffer overlay capacity starting ≡ opened overlay capacity starting
-  unfolding openBytes
-  fresh_bytes = ap (λ (a : OpenAnswer). left a (fresh_book overlay capacity starting) buffer) (done (openAnswer buffer overlay capacity starting) z)
+module _ (buffer overlay : List ℕ) (capacity starting : ℕ) (z : open_number (open_answer buffer overlay capacity starting) ≡ 0) where
+  pub fresh_bytes : open_bytes buffer overlay capacity starting ≡ opened overlay capacity starting
+  unfolding open_bytes
+  fresh_bytes = ap (λ (a : OpenAnswer). left a (fresh_book overlay capacity starting) buffer) (done (open_answer buffer overlay capacity starting) z)
 
   pub fresh_openable : Bytes overlay → Openable overlay capacity starting
-  unfolding openAnswer
+  unfolding open_answer
   fresh_openable byte = by (in_range capacity starting) (eqb (length overlay) 32) (eqb (length buffer) (48 + 145 * capacity)) refl refl z
     where
       by : (r o b : Bool) → in_range capacity starting ≡ r → eqb (length overlay) 32 ≡ o
@@ -43,7 +43,7 @@ unfolding in_range
 within capacity starting p q r = rw (le-leb 16 capacity p, le-leb capacity 65536 q, le-leb starting 16 r) refl
 
 pub opens_within : (buffer overlay : List ℕ) (capacity starting : ℕ) → 16 ≤ capacity → capacity ≤ 65536 → starting ≤ 16
-    → length overlay ≡ 32 → length buffer ≡ 48 + 145 * capacity → open_number (openAnswer buffer overlay capacity starting) ≡ 0
+    → length overlay ≡ 32 → length buffer ≡ 48 + 145 * capacity → open_number (open_answer buffer overlay capacity starting) ≡ 0
 opens_within buffer overlay capacity starting p q r h k =
     ap open_number (sym (opens buffer overlay capacity starting (within capacity starting p q r) h k).0)
 

@@ -8,7 +8,7 @@ use Rattle.merkle.specs.Tree.{address_of}
 use Rattle.settling.specs.Meaning.{Each}
 use Rattle.records.specs.Record.{address_in}
 use Rattle.book.specs.Layout.{records_in}
-use Rattle.opening.specs.Open.{openAnswer, openBytes, open_number}
+use Rattle.opening.specs.Open.{open_answer, open_bytes, open_number}
 use Rattle.histories.specs.Histories.{Offer, ByteOffer, heard}
 use Rattle.draw.specs.Answer.{draw_number}
 use Rattle.shelf.specs.Cell.{Cell, own_address, pair_of}
@@ -21,8 +21,8 @@ use Rattle.draw.specs.Draw.{cells_drawn, pairs_drawn, sixteen_drawn, drawn, samp
 -- another, each through what the contract of `offer` leaves, refused ones too.
 pub record Became (overlay : List ℕ) (capacity starting : ℕ) (batches : List ℕ) (s : List Offer) (book : List ℕ) : Type 0 where
   pub buffer : List ℕ
-  pub opened : open_number (openAnswer buffer overlay capacity starting) ≡ 0
-  pub end : book ≡ heard batches (openBytes buffer overlay capacity starting) s
+  pub opened : open_number (open_answer buffer overlay capacity starting) ≡ 0
+  pub end : book ≡ heard batches (open_bytes buffer overlay capacity starting) s
 
 -- every offer made to either was made to both: any order, any repeats
 pub record SameOffers (s t : List Offer) : Type 0 where
@@ -43,7 +43,7 @@ abbrev pub EveryOpening : Type 0
 EveryOpening =
     (overlay : List ℕ) (capacity starting : ℕ) (batches : List ℕ) (s : List Offer) (buffer : List ℕ) → 16 ≤ capacity → capacity ≤ 65536 → starting ≤ 16
     → length overlay ≡ 32 → length buffer ≡ 48 + 145 * capacity
-    → Became overlay capacity starting batches s (heard batches (openBytes buffer overlay capacity starting) s)
+    → Became overlay capacity starting batches s (heard batches (open_bytes buffer overlay capacity starting) s)
 
 -- .. and offers in another order, some of them twice, are the same offers: t, s and t again, and s and t.
 abbrev pub OrderAndRepeats : Type 0

@@ -1,23 +1,35 @@
 // The files that the day is read from.
-ghost use Rattle.io.specs.Counts.{IsPrefixLen};
+ghost use Rattle.streams.specs.Counts.{IsPrefixLen};
 
-use libc::STDERR_FILENO;
+use std::fs::File;
+use std::rt::Files;
+use streams::{fail, read_full};
 
 // Reads a file of records of one size, and answers how many bytes it has. 0 is answered where it cannot be used, once the reader is
 // told why.
-pub(crate) fn load(path: &[u8], size: usize, space: &mut [u8]) -> usize
+pub(crate) fn load(
+    rt: &(impl Files + Eprint + AllocGlobal),
+    path: &str,
+    size: usize,
+    space: &mut [u8],
+) -> usize
     ensures { IsPrefixLen result space.new }
 {
-    let fd = os::open_read(path);
-    if fd < 0 {
-        os::fail(path);
-        blame(path, b"cannot be opened");
-        return 0;
-    }
-    let length = io::read_full(fd, space);
-    libc::close(fd);
+    let mut file = match File::open(rt, path) {
+        Ok(file) => file,
+        Err(error) => {
+            fail(rt, path, error);
+            blame(rt, path, "cannot be opened");
+            return 0;
+        }
+    };
+    let length = read_full(&mut file, space);
     if !is_whole(length, size, space.len()) {
-        blame(path, b"is damaged: its length is not that of whole records");
+        blame(
+            rt,
+            path,
+            "is damaged: its length is not that of whole records",
+        );
         return 0;
     }
     length
@@ -38,10 +50,6 @@ fn is_whole(length: usize, size: usize, space: usize) -> bool {
 }
 
 // Names a file and says what is wrong with it.
-pub(crate) fn blame(path: &[u8], fault: &[u8]) {
-    io::write_all(STDERR_FILENO, b"The day cannot be run, since the file ");
-    io::write_all(STDERR_FILENO, path);
-    io::write_all(STDERR_FILENO, b" ");
-    io::write_all(STDERR_FILENO, fault);
-    io::write_all(STDERR_FILENO, b".\n");
+pub(crate) fn blame(rt: &impl Eprint, path: &str, fault: &str) {
+    let _ = eprintln!(rt; "The day cannot be run, since the file {path} {fault}.");
 }

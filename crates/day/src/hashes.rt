@@ -1,58 +1,78 @@
 // What is said of four draws, and of who agrees.
 use crate::machine::Machine;
 use crate::text::{hex, number, say};
+use std::io;
 use verdict::equal::same_digest;
 use verdict::machines::{Drawn, agree, one_hash};
 
 // The anchor, and a line for each machine.
-pub(crate) fn draws(anchor: &[u8], a: Drawn, b: Drawn, c: Drawn, d: Drawn) {
+pub(crate) fn draws(
+    rt: &impl Print,
+    anchor: &[u8],
+    a: Drawn,
+    b: Drawn,
+    c: Drawn,
+    d: Drawn,
+) -> io::Result<()> {
     say(
+        rt,
         b"The draw: the anchor picks sixteen chunks from each machine's own book, and one hash stands for them
   anchor      ",
-    );
-    hex(anchor);
-    drawn(b"\n  machine A   ", a, a);
-    drawn(b"  machine B   ", b, a);
-    drawn(b"  machine C   ", c, a);
-    drawn(b"  machine D   ", d, a);
-    say(b"\n");
+    )?;
+    hex(rt, anchor)?;
+    drawn(rt, b"\n  machine A   ", a, a)?;
+    drawn(rt, b"  machine B   ", b, a)?;
+    drawn(rt, b"  machine C   ", c, a)?;
+    drawn(rt, b"  machine D   ", d, a)?;
+    say(rt, b"\n")
 }
 
 // One machine's line, marked where its hash is not the first machine's.
-fn drawn(name: &[u8], m: Drawn, first: Drawn) {
+fn drawn(rt: &impl Print, name: &[u8], m: Drawn, first: Drawn) -> io::Result<()> {
     let hash = m.hash;
-    say(name);
+    say(rt, name)?;
     if m.number != 0 {
-        not_drawn(m.number);
-        return;
+        return not_drawn(rt, m.number);
     }
-    hex(&hash);
+    hex(rt, &hash)?;
     if one_hash(first, m) {
-        say(b"\n");
+        say(rt, b"\n")
     } else {
-        say(b"   not machine A's\n");
+        say(rt, b"   not machine A's\n")
     }
 }
 
 // Why there is no hash.
-fn not_drawn(answer: u32) {
-    say(b"no hash, since the draw answered ");
-    number(answer as u64, 1);
+fn not_drawn(rt: &impl Print, answer: u32) -> io::Result<()> {
+    say(rt, b"no hash, since the draw answered ")?;
+    number(rt, answer as u64, 1)?;
     match answer {
-        23 => say(b": a chunk is missing\n"),
-        24 => say(b": a chunk is not the one that its record names\n"),
-        26 => say(b": the book has fewer than sixteen chunks\n"),
-        _ => say(b"\n"),
+        23 => say(rt, b": a chunk is missing\n"),
+        24 => say(rt, b": a chunk is not the one that its record names\n"),
+        26 => say(rt, b": the book has fewer than sixteen chunks\n"),
+        _ => say(rt, b"\n"),
     }
 }
 
 // Whether the four books have one digest.
-pub(crate) fn on_books(a: Machine, b: Machine, c: Machine, d: Machine) {
-    say(b"\nWhat was kept and what was refused on the way depends on the order of the offers.\n");
+pub(crate) fn on_books(
+    rt: &impl Print,
+    a: Machine,
+    b: Machine,
+    c: Machine,
+    d: Machine,
+) -> io::Result<()> {
+    say(
+        rt,
+        b"\nWhat was kept and what was refused on the way depends on the order of the offers.\n",
+    )?;
     if one_book_all(a, b, c, d) {
-        say(b"What the books came to does not: four orders, one digest.\n\n");
+        say(
+            rt,
+            b"What the books came to does not: four orders, one digest.\n\n",
+        )
     } else {
-        say(b"And the books came to more than one digest.\n\n");
+        say(rt, b"And the books came to more than one digest.\n\n")
     }
 }
 
@@ -74,57 +94,72 @@ fn one_book(a: Machine, b: Machine) -> bool {
 }
 
 // What became of a machine that missed offers; nothing of one that missed none.
-fn on_missed(name: &[u8], m: Machine, first: Machine) {
+fn on_missed(rt: &impl Print, name: &[u8], m: Machine, first: Machine) -> io::Result<()> {
     if m.missed == 0 {
-        return;
+        return Ok(());
     }
-    say(name);
-    say(b" missed ");
-    number(m.missed, 1);
+    say(rt, name)?;
+    say(rt, b" missed ")?;
+    number(rt, m.missed, 1)?;
     let one = m.drawn;
     let other = first.drawn;
-    on_both(one_book(first, m), one_hash(other, one));
+    on_both(rt, one_book(first, m), one_hash(other, one))
 }
 
 // Whether its book and its hash are the first machine's.
-fn on_both(same_book: bool, same_hash: bool) {
+fn on_both(rt: &impl Print, same_book: bool, same_hash: bool) -> io::Result<()> {
     if same_book {
-        on_same_book(same_hash);
+        on_same_book(rt, same_hash)
     } else {
-        on_other_book(same_hash);
+        on_other_book(rt, same_hash)
     }
 }
 
 // Its book is the first machine's.
-fn on_same_book(same_hash: bool) {
+fn on_same_book(rt: &impl Print, same_hash: bool) -> io::Result<()> {
     if same_hash {
-        say(b" offers: its book and its hash are machine A's all the same.\n");
+        say(
+            rt,
+            b" offers: its book and its hash are machine A's all the same.\n",
+        )
     } else {
-        say(b" offers: its book is machine A's, but its hash is not.\n");
+        say(
+            rt,
+            b" offers: its book is machine A's, but its hash is not.\n",
+        )
     }
 }
 
 // Its book is not the first machine's.
-fn on_other_book(same_hash: bool) {
+fn on_other_book(rt: &impl Print, same_hash: bool) -> io::Result<()> {
     if same_hash {
-        say(b" offers: its hash is machine A's, but its book is not.\n");
+        say(
+            rt,
+            b" offers: its hash is machine A's, but its book is not.\n",
+        )
     } else {
-        say(b" offers: its book and its hash are not machine A's.\n");
+        say(rt, b" offers: its book and its hash are not machine A's.\n")
     }
 }
 
 // Who missed offers.
-pub(crate) fn on_all_missed(a: Machine, b: Machine, c: Machine, d: Machine) {
-    on_missed(b"Machine B", b, a);
-    on_missed(b"Machine C", c, a);
-    on_missed(b"Machine D", d, a);
+pub(crate) fn on_all_missed(
+    rt: &impl Print,
+    a: Machine,
+    b: Machine,
+    c: Machine,
+    d: Machine,
+) -> io::Result<()> {
+    on_missed(rt, b"Machine B", b, a)?;
+    on_missed(rt, b"Machine C", c, a)?;
+    on_missed(rt, b"Machine D", d, a)
 }
 
 // Whether the four agree: that is said of four equal hashes alone.
-pub(crate) fn on_all(a: Drawn, b: Drawn, c: Drawn, d: Drawn) {
+pub(crate) fn on_all(rt: &impl Print, a: Drawn, b: Drawn, c: Drawn, d: Drawn) -> io::Result<()> {
     if agree(a, b, c, d) {
-        say(b"THE FOUR MACHINES AGREE: all four drew one hash.\n");
+        say(rt, b"THE FOUR MACHINES AGREE: all four drew one hash.\n")
     } else {
-        say(b"THE FOUR MACHINES DO NOT AGREE.\n");
+        say(rt, b"THE FOUR MACHINES DO NOT AGREE.\n")
     }
 }

@@ -1,7 +1,7 @@
 // One machine: it hears offers, keeps its book by them, and draws at noon.
 ghost use Rattle.std.specs.Prelude.{◌≤◌, length};
 
-use crate::shelf::shelve;
+use crate::shelved::shelve;
 use crate::stock::{OFFER, heard_count, heard_place, missed};
 use book::header::{count, depth};
 use draw::draw;
@@ -24,7 +24,7 @@ const SHELF: usize = 16384;
 pub(crate) const ANSWERS: usize = 23;
 
 // A machine at noon.
-#[derive(Drop)]
+#[derive(Clone, Copy)]
 pub(crate) struct Machine {
     pub heard: u64,
     pub missed: u64,

@@ -3,40 +3,48 @@ ghost use Rattle.std.specs.Prelude.{◌<◌};
 
 use crate::machine::{ANSWERS, Machine};
 use crate::text::{number, part, say, short};
+use std::io;
 
 // Who heard all, and a line for each machine.
-pub(crate) fn books(a: Machine, b: Machine, c: Machine, d: Machine) {
+pub(crate) fn books(
+    rt: &impl Print,
+    a: Machine,
+    b: Machine,
+    c: Machine,
+    d: Machine,
+) -> io::Result<()> {
     if a.missed == 0 && b.missed == 0 && c.missed == 0 && d.missed == 0 {
-        say(b"every machine heard every offer\n\n");
+        say(rt, b"every machine heard every offer\n\n")?;
     } else {
-        say(b"some offers did not reach every machine\n\n");
+        say(rt, b"some offers did not reach every machine\n\n")?;
     }
     book(
+        rt,
         b"At noon       heard  missed    kept  dropped  refused   records  depth   digest of the book
   machine A",
         a,
-    );
-    book(b"  machine B", b);
-    book(b"  machine C", c);
-    book(b"  machine D", d);
-    say(b"\n");
+    )?;
+    book(rt, b"  machine B", b)?;
+    book(rt, b"  machine C", c)?;
+    book(rt, b"  machine D", d)?;
+    say(rt, b"\n")
 }
 
 // One machine's line.
-fn book(name: &[u8], m: Machine) {
+fn book(rt: &impl Print, name: &[u8], m: Machine) -> io::Result<()> {
     let digest = m.digest;
     let answers = m.answers;
-    say(name);
-    number(m.heard, 8);
-    number(m.missed, 8);
-    number(answers[0], 8);
-    number(answers[2], 9);
-    number(refused(answers), 9);
-    number(m.records, 10);
-    number(m.depth, 7);
-    say(b"   ");
-    short(&digest);
-    say(b"\n");
+    say(rt, name)?;
+    number(rt, m.heard, 8)?;
+    number(rt, m.missed, 8)?;
+    number(rt, answers[0], 8)?;
+    number(rt, answers[2], 9)?;
+    number(rt, refused(answers), 9)?;
+    number(rt, m.records, 10)?;
+    number(rt, m.depth, 7)?;
+    say(rt, b"   ")?;
+    short(rt, &digest)?;
+    say(rt, b"\n")
 }
 
 // How many offers changed nothing: those whose number is 10 or more.
@@ -54,8 +62,9 @@ fn sum_of(a: u64, b: u64) -> u64 {
 }
 
 // What the columns mean, and the head of the reasons.
-pub(crate) fn words() {
+pub(crate) fn words(rt: &impl Print) -> io::Result<()> {
     say(
+        rt,
         b"  heard     offers that reached the machine; one that came twice counts twice
   missed    offers that never reached it
   kept      offers whose record went into the book, if only for a while
@@ -68,34 +77,50 @@ pub(crate) fn words() {
 
 Why offers were refused                                        A     B     C     D
 ",
-    );
+    )
 }
 
 // Why each machine refused offers: answer 10, then those from 16 on.
-pub(crate) fn reasons(a: Machine, b: Machine, c: Machine, d: Machine) {
-    reason(0, 10, a, b, c, d);
+pub(crate) fn reasons(
+    rt: &impl Print,
+    a: Machine,
+    b: Machine,
+    c: Machine,
+    d: Machine,
+) -> io::Result<()> {
+    reason(rt, 0, 10, a, b, c, d)?;
     for answer in 16..ANSWERS {
-        reason(answer - 15, answer, a, b, c, d);
+        reason(rt, answer - 15, answer, a, b, c, d)?;
     }
+    Ok(())
 }
 
 // One reason by its place, and how often each machine had it.
-fn reason(place: usize, answer: usize, a: Machine, b: Machine, c: Machine, d: Machine)
+fn reason(
+    rt: &impl Print,
+    place: usize,
+    answer: usize,
+    a: Machine,
+    b: Machine,
+    c: Machine,
+    d: Machine,
+) -> io::Result<()>
     requires { place < 8 }
 {
-    why(59 * place);
-    number(answered(a, answer), 6);
-    number(answered(b, answer), 6);
-    number(answered(c, answer), 6);
-    number(answered(d, answer), 6);
-    say(b"\n");
+    why(rt, 59 * place)?;
+    number(rt, answered(a, answer), 6)?;
+    number(rt, answered(b, answer), 6)?;
+    number(rt, answered(c, answer), 6)?;
+    number(rt, answered(d, answer), 6)?;
+    say(rt, b"\n")
 }
 
 // The reason that begins at a place of the text, in 58 bytes; a line end stands behind each.
-fn why(start: usize)
+fn why(rt: &impl Print, start: usize) -> io::Result<()>
     requires { start < 472 }
 {
     part(
+        rt,
         b"  10  the stamp came cut short                            
   16  the stamp's batch is not in the list                
   17  the stamp is for another bucket than the chunk's    
@@ -106,7 +131,7 @@ fn why(start: usize)
   22  the slot is held by a stamp of higher rank          ",
         start,
         start + 58,
-    );
+    )
 }
 
 // How many offers had an answer.

@@ -33,13 +33,13 @@ module _ (book shelf anchor sample : List ℕ) where
   abbrev pub Given : DrawResult → List ℕ → Type 0
   Given r after = (r ≡ drawn book shelf anchor sample) × (after ≡ sample_after book shelf anchor sample)
 
-  abbrev result-of : DrawAnswer → DrawResult
-  result-of a = record { answer = a; commitment = only_done a (commitment_of (sixteen_drawn book shelf anchor)) (replicate 32 0) }
+  abbrev result_of : DrawAnswer → DrawResult
+  result_of a = record { answer = a; commitment = only_done a (commitment_of (sixteen_drawn book shelf anchor)) (replicate 32 0) }
 
   refusal : (a : DrawAnswer) → is_done a ≡ false → draw_answer book shelf anchor sample ≡ a → Given (refused a) sample
   unfolding drawn sample_after
   refusal a h e = (
-    sym (ap result-of e ∙ ap (λ (c : List ℕ). record { answer = a; commitment = c }) (refused_keeps a (commitment_of (sixteen_drawn book shelf anchor)) (replicate 32 0) h)),
+    sym (ap result_of e ∙ ap (λ (c : List ℕ). record { answer = a; commitment = c }) (refused_keeps a (commitment_of (sixteen_drawn book shelf anchor)) (replicate 32 0) h)),
     sym (ap (λ (x : DrawAnswer). only_done x (written (sixteen_drawn book shelf anchor)) sample) e ∙ refused_keeps a (written (sixteen_drawn book shelf anchor)) sample h),
   )
 
@@ -48,7 +48,7 @@ module _ (book shelf anchor sample : List ℕ) where
       → Given (record { answer = a; commitment = commitment }) after
   unfolding drawn sample_after
   success a commitment after done e c w = (
-    ◌∙◌ {b = result-of Done} (ap₂ (λ (x : DrawAnswer) (d : List ℕ). record { answer = x; commitment = d }) done c) (sym (ap result-of e)),
+    ◌∙◌ {b = result_of Done} (ap₂ (λ (x : DrawAnswer) (d : List ℕ). record { answer = x; commitment = d }) done c) (sym (ap result_of e)),
     w ∙ sym (ap (λ (x : DrawAnswer). only_done x (written (sixteen_drawn book shelf anchor)) sample) e),
   )
 

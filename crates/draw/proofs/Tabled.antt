@@ -18,7 +18,7 @@ use Rattle.draw.specs.declared.answer.DrawAnswer.TheVariants.{Done, NotWellForme
 use Rattle.draw.specs.Answer.{draw_number, and_then}
 use Rattle.draw.specs.Shelf.{shelf_answer}
 use Rattle.draw.specs.Draw.{addresses_in, pairs_drawn, sixteen_drawn, lent_answer, draw_answer}
-use Rattle.draw.specs.Theorems.{shelf_from, SixteenAmong, Ready, AllSound, DrawTable, not_well_formed, already_overfull, wrong-length, wrong-cell, bytes_left, too_few, done}
+use Rattle.draw.specs.Theorems.{shelf_from, SixteenAmong, Ready, AllSound, DrawTable, not_well_formed, already_overfull, wrong_length, wrong_cell, bytes_left, too_few, done}
 use Rattle.draw.proofs.Answered.{addresses_length, sixteen_most}
 use Rattle.draw.proofs.Different.{enough_among, among_enough}
 use Rattle.draw.proofs.Judging.{Says, says_as, stops, wrong_refused, past, shelf_wrong, Walked, wrong_at, through, walked}
@@ -118,8 +118,8 @@ module _ (book shelf anchor sample : List ℕ) where
     from_table : (n p : ℕ) → DrawTable book shelf anchor sample n p → Says (draw_answer book shelf anchor sample) n p
     from_table n p (not_well_formed u) = says_as (at_once NotWellFormed (omega arith) (lent_ill book anchor sample byte u)) (refl, refl)
     from_table n p (already_overfull w e) = says_as (at_once Overfull (omega arith) (lent_overfull book anchor sample w e)) (refl, refl)
-    from_table n p (wrong-length w z h) = says_as (at_once WrongLength (omega arith) (lent_length book anchor sample w z h)) (refl, refl)
-    from_table n p (wrong-cell m i r h sound w) =
+    from_table n p (wrong_length w z h) = says_as (at_once WrongLength (omega arith) (lent_length book anchor sample w z h)) (refl, refl)
+    from_table n p (wrong_cell m i r h sound w) =
         let a = shelf_answer 0 (addresses_in book) shelf in
         let says = shelf_wrong (addresses_in book) shelf m i (omega (arith, h, addresses_length book)) sound w in
         let refused : 10 ≤ draw_number a = omega (arith, says.0, wrong_refused (get_or (addresses_in book) i []) (shelf_from i shelf) m w) in
@@ -150,15 +150,15 @@ module _ (book shelf anchor sample : List ℕ) where
       where
         go : Walked (addresses_in book) shelf → Row
         go (wrong_at i h sound w) =
-            record { number = w.number; place = i; given = wrong-cell w.number i r (omega (arith, h, addresses_length book)) sound w.wrong }
+            record { number = w.number; place = i; given = wrong_cell w.number i r (omega (arith, h, addresses_length book)) sound w.wrong }
         go (through sound) = counted (record { ready = r; sound = λ j h. sound j (omega (arith, h, addresses_length book)) })
 
     lengthed : WellFormed book → state_in book ≡ 0 → Row
     lengthed w z = go (ℕ_discrete (length anchor) 32) (ℕ_discrete (length sample) 1024)
       where
         go : Dec (length anchor ≡ 32) → Dec (length sample ≡ 1024) → Row
-        go (no f) d = record { number = 10; place = 0; given = wrong-length w z (inl f) }
-        go (yes e) (no f) = record { number = 10; place = 0; given = wrong-length w z (inr f) }
+        go (no f) d = record { number = 10; place = 0; given = wrong_length w z (inl f) }
+        go (yes e) (no f) = record { number = 10; place = 0; given = wrong_length w z (inr f) }
         go (yes e) (yes f) = celled (record { formed = w; good = z; anchored = e; output = f })
 
     formed : WellFormed book → Row

@@ -64,9 +64,9 @@ pub record AllSound (book shelf anchor sample : List ℕ) : Type 0 where
 pub data DrawTable (book shelf anchor sample : List ℕ) : ℕ → ℕ → Type 0 where
   not_well_formed : (WellFormed book → ⊥) → DrawTable book shelf anchor sample 13 0
   already_overfull : WellFormed book → state_in book ≡ 1 → DrawTable book shelf anchor sample 14 0
-  wrong-length :
+  wrong_length :
       WellFormed book → state_in book ≡ 0 → (length anchor ≡ 32 → ⊥) ⊎ (length sample ≡ 1024 → ⊥) → DrawTable book shelf anchor sample 10 0
-  wrong-cell :
+  wrong_cell :
       (n i : ℕ) → Ready book anchor sample → i < count_in book → SoundBefore (addresses_in book) shelf i
       → WrongCell (get_or (addresses_in book) i []) (shelf_from i shelf) n → DrawTable book shelf anchor sample n i
   bytes_left : AllSound book shelf anchor sample → 0 < length (shelf_from (count_in book) shelf) → DrawTable book shelf anchor sample 25 0

@@ -1,5 +1,6 @@
 // The draw: the shelf read against the book, the sixteen smallest pairs, and their commitment.
 #![tactic(auto)]
+
 mod answer;
 mod drawing;
 

@@ -1,3 +1,4 @@
 // A book's bytes, edited in place.
 #![tactic(auto)]
+
 pub mod edit;

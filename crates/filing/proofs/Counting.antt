@@ -15,10 +15,10 @@ use Rattle.octets.proofs.Numbers.{length_bytes_of}
 use Rattle.octets.proofs.Pieces.{length_pieces}
 use Rattle.nearness.proofs.Shared.{shared_bits_most}
 use Rattle.settling.specs.Rank.{Shape}
-use Rattle.settling.specs.Tally.{reach, tally, Counters, leastFit, least}
+use Rattle.settling.specs.Tally.{reach, tally, Counters, least_fit, least}
 use Rattle.settling.proofs.Counters.{reach_is, counters_cons, counters_next}
 use Rattle.settling.proofs.Cases.{Limit, within, beyond, limit}
-use Rattle.settling.proofs.Least.{Descent, descent_end, least_end, least_fit}
+use Rattle.settling.proofs.Least.{Descent, descent_end, least_end, least_fit_lem}
 use Rattle.records.specs.Record.{slot, near_of}
 use Rattle.book.specs.Layout.{depth_in, overlay_in, capacity_in, records_in}
 use Rattle.book.specs.Shape.{shape_in}
@@ -72,7 +72,7 @@ module _ (s : List ℕ) (count : ℕ) where
         let all : take i l ≡ l = take_all i l (omega (arith, h, length_pieces 145 count (drop 48 s))) in
         rw (← e) (counters_cons (shape_in s) t l a (rw all at w))
 
-pub least_in_lem : (s g : List ℕ) → length g ≡ 145 → whole s ≡ true → least_in s g ≡ leastFit (shape_in s) (16 - depth_in s) (suc (depth_in s)) (g ∷ records_in s)
+pub least_in_lem : (s g : List ℕ) → length g ≡ 145 → whole s ≡ true → least_in s g ≡ least_fit (shape_in s) (16 - depth_in s) (suc (depth_in s)) (g ∷ records_in s)
 unfolding least_in
 least_in_lem s g k e = rw (eq-eqb (length g) 145 k, e)
 
@@ -88,7 +88,7 @@ least_told s g n own capacity depth r t size e en eo f ec ed er =
     let counters : Counters (shape_in s) t (g ∷ records_in s) = subst (λ (m : ℕ). Counters (shape_in s) t (g ∷ pieces 145 m (drop 48 s))) (whole_count s n en e) (f g reached) in
     let next : depth + 1 ≡ suc (depth_in s) = ap (λ (m : ℕ). m + 1) ed ∙ add-one (depth_in s) in
     er ∙ (λ i. least (room i) (next i) (drop (next i) t))
-    ∙ least_fit (shape_in s) (16 - depth_in s) (suc (depth_in s)) t (g ∷ records_in s) counters (omega arith)
+    ∙ least_fit_lem (shape_in s) (16 - depth_in s) (suc (depth_in s)) t (g ∷ records_in s) counters (omega arith)
     ∙ sym (least_in_lem s g size e)
 
 -- where the walk down the counters ends without a stop, or never starts

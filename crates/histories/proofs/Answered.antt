@@ -17,7 +17,7 @@ use Rattle.book.specs.Book.{Book, in_state, read, write}
 use Rattle.reserve.specs.Stamps.{stamp_answer}
 use Rattle.reserve.specs.Offer.{Ended, shape_of, entered}
 use Rattle.histories.specs.Histories.{Offer, ByteOffer, after, answer}
-use Rattle.histories.specs.Theorems.{Table, not_well_formed, already_overfull, stamp-refused, settles, VeryRecordHeld}
+use Rattle.histories.specs.Theorems.{Table, not_well_formed, already_overfull, stamp_refused, settles, VeryRecordHeld}
 use Rattle.book.proofs.Soundness.{lawful_sound}
 use Rattle.book.proofs.Roundtrip.{read_good, read_lawful, write_read, read_write}
 use Rattle.reserve.proofs.Stamped.{stamp_fits}
@@ -67,7 +67,7 @@ module _ (batches book : List ℕ) (o : Offer) (byte : Bytes book) (ob : ByteOff
       go (unstamped w z k j) =
           let no-pass : verdict ≡ 0 → ⊥ = λ f. omega (arith, k, f) in
           let m : verdict ≡ n = sym (ap number_after (way_stamp book batches o.address o.stamp o.account w z no-pass)) ∙ e in
-          stamp-refused n w z m (λ f. omega (arith, k, m, f))
+          stamp_refused n w z m (λ f. omega (arith, k, m, f))
       go (enters w z s) = settles n w z s ((theorems.answers (shape_of b) b.state r n (sound w)).0 (sym (enters_number w z s) ∙ e))
 
   from_table : (n : ℕ) → Table batches book o n → answer batches book o ≡ n
@@ -79,7 +79,7 @@ module _ (batches book : List ℕ) (o : Offer) (byte : Bytes book) (ob : ByteOff
       go (unstamped w z k j) = absurd (u w)
       go (enters w z s) = absurd (u w)
   from_table n (already_overfull w z) = ap number_after (way_overfull book batches o.address o.stamp o.account w z)
-  from_table n (stamp-refused m w z e f) = ap number_after (way_stamp book batches o.address o.stamp o.account w z (λ k. f (sym e ∙ k))) ∙ e
+  from_table n (stamp_refused m w z e f) = ap number_after (way_stamp book batches o.address o.stamp o.account w z (λ k. f (sym e ∙ k))) ∙ e
   from_table n (settles m w z s g) = enters_number w z s ∙ (theorems.answers (shape_of b) b.state r m (sound w)).1 g
 
   pub answers_table : (n : ℕ) → (answer batches book o ≡ n) ↔ Table batches book o n

@@ -14,7 +14,7 @@ use Rattle.book.specs.Book.{read}
 use Rattle.reserve.specs.Stamps.{stamp_answer}
 use Rattle.reserve.specs.Offer.{shape_of}
 use Rattle.histories.specs.Histories.{Offer, ByteOffer, answer}
-use Rattle.histories.specs.Theorems.{Table, not_well_formed, already_overfull, stamp-refused, settles, NearnessOfSlots, BelowDepth}
+use Rattle.histories.specs.Theorems.{Table, not_well_formed, already_overfull, stamp_refused, settles, NearnessOfSlots, BelowDepth}
 use Rattle.book.proofs.Slots.{near_slot}
 use Rattle.reserve.proofs.Stamped.{stamp_fits, stamp_address, stamp_range}
 use Rattle.book.proofs.Roundtrip.{read_good}
@@ -52,7 +52,7 @@ module _ (batches book : List ℕ) (o : Offer) (byte : Bytes book) (ob : ByteOff
       go : (n : ℕ) → Table batches book o n → n ≡ 20 → BelowDepth batches book o
       go n (not_well_formed u) k = absurd (omega arith)
       go n (already_overfull w z) k = absurd (omega arith)
-      go n (stamp-refused m w z v f) k = absurd (pick (stamp_range batches o.address o.stamp o.account))
+      go n (stamp_refused m w z v f) k = absurd (pick (stamp_range batches o.address o.stamp o.account))
         where
           pick : (verdict ≡ 0) ⊎ ((10 ≤ verdict) × (verdict ≤ 19)) → ⊥
           pick (inl h) = f (sym v ∙ h)

@@ -14,7 +14,7 @@ use Rattle.book.specs.Lawful.{Lawful}
 use Rattle.book.specs.Book.{Book, in_state, held_by, read, write}
 use Rattle.opening.specs.Open.{fresh_book}
 use Rattle.reserve.specs.Offer.{Ended}
-use Rattle.histories.specs.Histories.{Offer, ByteOffer, Openable, after, heard, passing, opened, settledBytes}
+use Rattle.histories.specs.Histories.{Offer, ByteOffer, Openable, after, heard, passing, opened, settled_bytes}
 use Rattle.histories.specs.Theorems.{Histories, HistoriesByMembers, SameMembersSameBytes, CountIsRecords, AlwaysWellFormed, Answers, RefusedChangesNothing, VeryRecord, NearnessOfSlots, OutsideTheDepth, OverfullForEver, RoomIsUsed}
 use Rattle.book.proofs.Roundtrip.{write_well_formed, read_write}
 use Rattle.reserve.proofs.Ways.{way_overfull}
@@ -39,7 +39,7 @@ module _ (overlay : List ℕ) (capacity starting : ℕ) (batches : List ℕ) (s 
   lawful_end : Lawful (in_state b end)
   lawful_end = subst (λ c. Lawful (in_state b c)) settles_to (lawful_hear batches b (good starting []) s (lawful_fresh overlay capacity starting openable) byte)
 
-  ended : heard batches (opened overlay capacity starting) s ≡ settledBytes overlay capacity starting batches s
+  ended : heard batches (opened overlay capacity starting) s ≡ settled_bytes overlay capacity starting batches s
   ended = heard_hear batches b (good starting []) s (lawful_fresh overlay capacity starting openable) byte ∙ ap (λ (c : State (List ℕ)). write (in_state b c)) settles_to
 
   state_there : (read (heard batches (opened overlay capacity starting) s)).state ≡ end

@@ -52,5 +52,5 @@ module _ (overlay : List ℕ) (capacity starting : ℕ) where
   opened = write (fresh_book overlay capacity starting)
 
   -- the bytes of what offers settle to: of all that pass, the highest rank of each slot, at the least depth at which they fit
-  abbrev pub settledBytes : List ℕ → List Offer → List ℕ
-  settledBytes batches s = write (in_state (fresh_book overlay capacity starting) (settled (shape overlay capacity) starting (valid (passing batches) s)))
+  abbrev pub settled_bytes : List ℕ → List Offer → List ℕ
+  settled_bytes batches s = write (in_state (fresh_book overlay capacity starting) (settled (shape overlay capacity) starting (valid (passing batches) s)))

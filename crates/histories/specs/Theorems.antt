@@ -12,7 +12,7 @@ use Rattle.book.specs.Layout.{state_in, depth_in, overlay_in, capacity_in, count
 use Rattle.book.specs.Book.{held_by, read}
 use Rattle.reserve.specs.Stamps.{stamp_answer}
 use Rattle.reserve.specs.Offer.{shape_of}
-use Rattle.histories.specs.Histories.{Offer, ByteOffer, Openable, after, answer, heard, passing, opened, settledBytes}
+use Rattle.histories.specs.Histories.{Offer, ByteOffer, Openable, after, answer, heard, passing, opened, settled_bytes}
 
 -- ---- histories from a fresh book, offers of any bytes among them
 
@@ -20,7 +20,7 @@ use Rattle.histories.specs.Histories.{Offer, ByteOffer, Openable, after, answer,
 abbrev pub Histories : Type 0
 Histories =
     (overlay : List ℕ) (capacity starting : ℕ) (batches : List ℕ) (s : List Offer) → Openable overlay capacity starting → Each ByteOffer s
-    → heard batches (opened overlay capacity starting) s ≡ settledBytes overlay capacity starting batches s
+    → heard batches (opened overlay capacity starting) s ≡ settled_bytes overlay capacity starting batches s
 
 -- Its state read by members: of all that pass, the highest rank of each slot, at the least depth from the starting depth on at which they
 -- fit; or overfull.
@@ -56,7 +56,7 @@ AlwaysWellFormed =
 pub data Table (batches book : List ℕ) (o : Offer) : ℕ → Type 0 where
   not_well_formed : (WellFormed book → ⊥) → Table batches book o 13
   already_overfull : WellFormed book → state_in book ≡ 1 → Table batches book o 14
-  stamp-refused :
+  stamp_refused :
       (n : ℕ) → WellFormed book → state_in book ≡ 0 → stamp_answer batches o.address o.stamp o.account ≡ n → (n ≡ 0 → ⊥) → Table batches book o n
   settles :
       (n : ℕ) → WellFormed book → state_in book ≡ 0 → stamp_answer batches o.address o.stamp o.account ≡ 0

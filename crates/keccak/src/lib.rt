@@ -1,5 +1,6 @@
 // Keccak-256: the Keccak team's sponge with its original padding.
 #![tactic(auto)]
+
 mod sponge;
 mod words;
 

@@ -1,34 +1,41 @@
 // Standard input, as far as the lent bytes go.
 ghost use Rattle.std.specs.Prelude.{◌≤◌, length};
 
-use libc::STDIN_FILENO;
+use std::io;
+use std::io::Read;
 
 #[derive(Drop)]
 pub(crate) struct Input {
     // How many of the lent bytes were read.
     pub(crate) length: usize,
-    // Whether a read failed.
-    pub(crate) failed: bool,
+    // Why a read failed, where one did.
+    pub(crate) failed: Option<io::Error>,
 }
 
 // Reads until the input ends, a read fails or the bytes are full.
-pub(crate) fn read_all(bytes: &mut [u8]) -> Input
+pub(crate) fn read_all(stdin: &mut impl Read, bytes: &mut [u8]) -> Input
     ensures { result.length ≤ length bytes.new }
 {
     let mut done = 0;
     while done < bytes.len() {
-        let got = libc::read(STDIN_FILENO, &mut bytes[done..]);
-        let more = io::count(got, &bytes[done..]);
-        if more == 0 {
-            return Input {
-                length: done,
-                failed: got < 0,
-            };
+        match stdin.read(&mut bytes[done..]) {
+            Ok(0) => {
+                return Input {
+                    length: done,
+                    failed: None,
+                };
+            }
+            Ok(more) => done += more,
+            Err(error) => {
+                return Input {
+                    length: done,
+                    failed: Some(error),
+                };
+            }
         }
-        done += more;
     }
     Input {
         length: done,
-        failed: false,
+        failed: None,
     }
 }

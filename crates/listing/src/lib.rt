@@ -1,5 +1,6 @@
 // The listing: a book as text.
 #![tactic(auto)]
+
 mod field;
 mod line;
 pub mod text;

@@ -1,5 +1,6 @@
 // Moves inside a lent buffer: bytes put, cleared, moved and put in between others, and numbers written.
 #![tactic(auto)]
+
 mod edit;
 mod number;
 

@@ -1,3 +1,4 @@
 // Nearness: how many leading bits two 32-byte numbers share.
 #![tactic(auto)]
+
 pub mod near;

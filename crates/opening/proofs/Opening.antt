@@ -9,7 +9,7 @@ use borrow.Author.Tests.{leb-true, eq-eqb, ne_eqb}
 use Rattle.opening.specs.declared.open.OpenAnswer.{OpenAnswer}
 use Rattle.opening.specs.declared.open.OpenAnswer.TheVariants.{Done, OutOfRange, WrongLength}
 use Rattle.book.specs.Book.{write}
-use Rattle.opening.specs.Open.{in_range, fresh_book, left, openAnswer, openBytes}
+use Rattle.opening.specs.Open.{in_range, fresh_book, left, open_answer, open_bytes}
 use Rattle.book.proofs.Truths.{both, fails}
 
 pub in_range_lem : (capacity starting : ℕ) → in_range capacity starting ≡ true → (16 ≤ capacity) × (capacity ≤ 65536) × (starting ≤ 16)
@@ -22,25 +22,25 @@ in_range_lem capacity starting e =
 module _ (s overlay : List ℕ) (capacity starting : ℕ) where
   -- the answer and the bytes
   abbrev Ends : OpenAnswer → List ℕ → Type 0
-  Ends a t = (a ≡ openAnswer s overlay capacity starting) × (t ≡ openBytes s overlay capacity starting)
+  Ends a t = (a ≡ open_answer s overlay capacity starting) × (t ≡ open_bytes s overlay capacity starting)
 
-  ended : (a : OpenAnswer) → a ≡ openAnswer s overlay capacity starting → Ends a (left a (fresh_book overlay capacity starting) s)
-  unfolding openBytes
+  ended : (a : OpenAnswer) → a ≡ open_answer s overlay capacity starting → Ends a (left a (fresh_book overlay capacity starting) s)
+  unfolding open_bytes
   ended a e = (e, ap (λ (b : OpenAnswer). left b (fresh_book overlay capacity starting) s) e)
 
   pub out_of_range : in_range capacity starting ≡ false → Ends OutOfRange s
-  unfolding openAnswer
+  unfolding open_answer
   out_of_range e = ended OutOfRange (rw e)
 
   module _ (r : in_range capacity starting ≡ true) where
     pub overlay_wrong : (length overlay ≡ 32 → ⊥) → Ends WrongLength s
-    unfolding openAnswer
+    unfolding open_answer
     overlay_wrong h = ended WrongLength (rw (r, ne_eqb (length overlay) 32 h))
 
     pub buffer_wrong : (length s ≡ 48 + 145 * capacity → ⊥) → Ends WrongLength s
-    unfolding openAnswer
+    unfolding open_answer
     buffer_wrong h = ended WrongLength (rw (r, fails (eqb (length overlay) 32) _ (ne_eqb (length s) (48 + 145 * capacity) h)))
 
     pub opens : length overlay ≡ 32 → length s ≡ 48 + 145 * capacity → Ends Done (write (fresh_book overlay capacity starting))
-    unfolding openAnswer
+    unfolding open_answer
     opens h k = ended Done (rw (r, eq-eqb (length overlay) 32 h, eq-eqb (length s) (48 + 145 * capacity) k))

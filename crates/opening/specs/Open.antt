@@ -20,14 +20,14 @@ left OutOfRange fresh s = s
 left WrongLength fresh s = s
 
 module _ (s overlay : List ℕ) (capacity starting : ℕ) where
-  unfoldable pub openAnswer : OpenAnswer
-  openAnswer =
+  unfoldable pub open_answer : OpenAnswer
+  open_answer =
       cond (in_range capacity starting)
       (cond (eqb (length overlay) 32 && eqb (length s) (48 + 145 * capacity)) Done WrongLength)
       OutOfRange
 
-  unfoldable pub openBytes : List ℕ
-  openBytes = left openAnswer (fresh_book overlay capacity starting) s
+  unfoldable pub open_bytes : List ℕ
+  open_bytes = left open_answer (fresh_book overlay capacity starting) s
 
 -- for each answer the number handed back
 abbrev pub open_number : OpenAnswer → ℕ

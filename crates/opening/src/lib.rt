@@ -1,3 +1,4 @@
 // Opening a book.
 #![tactic(auto)]
+
 pub mod open;

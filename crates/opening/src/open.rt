@@ -1,7 +1,7 @@
 // Opening a book in a lent buffer.
 ghost use Rattle.std.specs.Prelude.{◌≡◌, ◌+◌, ◌*◌, length};
 ghost use Rattle.book.specs.Book.{write};
-ghost use Rattle.opening.specs.Open.{in_range, fresh_book, openAnswer, openBytes, open_number};
+ghost use Rattle.opening.specs.Open.{in_range, fresh_book, open_answer, open_bytes, open_number};
 
 use moving::{clear, put, write32};
 
@@ -28,8 +28,8 @@ impl OpenAnswer {
 
 // A fresh book in `book`, over whatever stood there. The arguments are judged before any length.
 pub fn open(book: &mut [u8], overlay: &[u8], capacity: u64, starting: u64) -> OpenAnswer
-    ensures answer { result ≡ openAnswer book.old overlay.now capacity starting }
-    ensures bytes { book.new ≡ openBytes book.old overlay.now capacity starting }
+    ensures answer { result ≡ open_answer book.old overlay.now capacity starting }
+    ensures bytes { book.new ≡ open_bytes book.old overlay.now capacity starting }
 {
     if !in_range(capacity, starting) {
         return OpenAnswer::OutOfRange;

@@ -1,5 +1,6 @@
 // Keccak-f[1600] on 25 lanes: lane (x, y) stands at x + 5y.
 #![tactic(auto)]
+
 mod rows;
 
 ghost use Rattle.std.specs.Prelude.{◌≡◌};

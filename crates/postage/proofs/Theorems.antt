@@ -43,7 +43,7 @@ answers_in_order = in_order
 pub passing_is_bucketed : (list address stamp account : List ℕ) → Bytes address → checked list address stamp account ≡ Passes → Bucketed address stamp
 passing_is_bucketed list address stamp account y e =
     let g = (in_order list address stamp account Passes).0 e in
-    record { is_bytes = y; address_whole = g.1.of_address; stamp_whole = g.1.of_stamp; in_bucket_lem = g.3 }
+    record { is_bytes = y; address_whole = g.1.of_address; stamp_whole = g.1.of_stamp; own_bucket = g.3 }
 
 pub passing_index : (list address stamp account : List ℕ) → checked list address stamp account ≡ Passes → index_in stamp < 2 ^ 24
 passing_index list address stamp account e =
@@ -62,7 +62,7 @@ bucket_is_first_16_bits address y h = bucket_bits address y (omega arith)
 pub one_slot_one_start : (address stamp address' stamp' : List ℕ) → Bucketed address stamp → Bucketed address' stamp' → slot_in stamp ≡ slot_in stamp' → take 2 address ≡ take 2 address'
 one_slot_one_start address stamp address' stamp' b b' e =
     bucket_start address address' b.is_bytes b'.is_bytes (omega (arith, b.address_whole)) (omega (arith, b'.address_whole))
-    (sym b.in_bucket_lem ∙ slot_bucket stamp stamp' (omega (arith, b.stamp_whole)) (omega (arith, b'.stamp_whole)) e ∙ b'.in_bucket_lem)
+    (sym b.own_bucket ∙ slot_bucket stamp stamp' (omega (arith, b.stamp_whole)) (omega (arith, b'.stamp_whole)) e ∙ b'.own_bucket)
 
 -- so to every overlay they are equally near, up to 16
 pub one_slot_one_nearness : (address stamp address' stamp' : List ℕ) → Bucketed address stamp → Bucketed address' stamp' → slot_in stamp ≡ slot_in stamp'

@@ -34,7 +34,7 @@ pub record Bucketed (address stamp : List ℕ) : Type 0 where
   pub is_bytes : Bytes address
   pub address_whole : length address ≡ 32
   pub stamp_whole : length stamp ≡ stamp_length
-  pub in_bucket_lem : bucket_in stamp ≡ bucket_of address
+  pub own_bucket : bucket_in stamp ≡ bucket_of address
 
 -- how many slots each bucket has in a batch of this depth
 unfoldable pub slots_of : ℕ → ℕ

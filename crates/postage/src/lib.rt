@@ -1,5 +1,6 @@
 // Postage: stamps, and the rules that a stamp must pass.
 #![tactic(auto)]
+
 mod lookup;
 mod rules;
 

@@ -1,5 +1,6 @@
 // Segment proofs made, plain and anchored.
 #![tactic(auto)]
+
 mod making;
 
 pub use making::{ProofMade, make_anchored_proof, make_proof};

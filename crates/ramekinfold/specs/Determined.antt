@@ -12,7 +12,7 @@ use Rattle.merkle.specs.Proof.{proof_of}
 use Rattle.nearness.specs.Near.{nearness_of}
 use Rattle.signing.specs.Digest.{stamp_digest}
 use Rattle.postage.specs.Rules.{stamp_number, checked as stampChecked}
-use Rattle.opening.specs.Open.{openAnswer, openBytes, open_number}
+use Rattle.opening.specs.Open.{open_answer, open_bytes, open_number}
 use Rattle.wellformed.specs.Check.{checked as bookChecked, book_number}
 use Rattle.records.specs.Choice.{choice}
 use Rattle.reserve.specs.Offer.{Ended, offered}
@@ -82,8 +82,8 @@ rkf_check_stamp_determined batches address stamp account r s p q = p ∙ sym q
 -- ---- books, and a draw from one: the answer, and the lent bytes afterwards where any may be written
 
 pub rkf_open_determined : (book overlay : List ℕ) (capacity starting : ℕ) (r s : ℕ) (after again : List ℕ)
-    → (r ≡ open_number (openAnswer book overlay capacity starting)) × (after ≡ openBytes book overlay capacity starting)
-    → (s ≡ open_number (openAnswer book overlay capacity starting)) × (again ≡ openBytes book overlay capacity starting)
+    → (r ≡ open_number (open_answer book overlay capacity starting)) × (after ≡ open_bytes book overlay capacity starting)
+    → (s ≡ open_number (open_answer book overlay capacity starting)) × (again ≡ open_bytes book overlay capacity starting)
     → (r ≡ s) × (after ≡ again)
 rkf_open_determined book overlay capacity starting r s after again p q = (p.0 ∙ sym q.0, p.1 ∙ sym q.1)
 

@@ -10,14 +10,14 @@ use Rattle.postage.specs.Rules.{stamp_number, checked}
 use Rattle.settling.specs.Meaning.{Given, kept, dropped, bursts, already, outside, very, outranked}
 use Rattle.opening.specs.declared.open.OpenAnswer.{OpenAnswer}
 use Rattle.opening.specs.declared.open.OpenAnswer.TheVariants as Opening
-use Rattle.opening.specs.Open.{openAnswer, openBytes, open_number}
+use Rattle.opening.specs.Open.{open_answer, open_bytes, open_number}
 use Rattle.opening.specs.Determined.{open_refused}
 use Rattle.book.specs.Book.{read}
 use Rattle.records.specs.Record.{record_of}
 use Rattle.reserve.specs.Stamps.{stamp_answer}
 use Rattle.reserve.specs.Offer.{shape_of}
 use Rattle.histories.specs.Histories.{Offer, ByteOffer, answer, after}
-use Rattle.histories.specs.Theorems.{Table, not_well_formed, already_overfull, stamp-refused, settles}
+use Rattle.histories.specs.Theorems.{Table, not_well_formed, already_overfull, stamp_refused, settles}
 use Rattle.histories.proofs.Theorems.{answers, refused_changes_nothing}
 use Rattle.draw.specs.Draw.{drawn, sample_after}
 use Rattle.draw.specs.Refused.{draw_refused}
@@ -27,9 +27,9 @@ use Rattle.ramekinfold.specs.Drawn.{of_drawn}
 -- ---- opening: r is the answer, and t what stands in the buffer afterwards
 
 pub rkf_open_refused : (book overlay : List ℕ) (capacity starting : ℕ) (r : ℕ) (t : List ℕ)
-    → r ≡ open_number (openAnswer book overlay capacity starting) → t ≡ openBytes book overlay capacity starting → Refusal r → t ≡ book
+    → r ≡ open_number (open_answer book overlay capacity starting) → t ≡ open_bytes book overlay capacity starting → Refusal r → t ≡ book
 rkf_open_refused book overlay capacity starting r t e f h =
-    f ∙ open_refused book overlay capacity starting (from_ten (openAnswer book overlay capacity starting) (subst Refusal e h))
+    f ∙ open_refused book overlay capacity starting (from_ten (open_answer book overlay capacity starting) (subst Refusal e h))
   where
     from_ten : (a : OpenAnswer) → Refusal (open_number a) → 10 ≤ open_number a
     from_ten a (inr h) = h
@@ -62,7 +62,7 @@ module _ (batches book : List ℕ) (o : Offer) where
   unfolding stamp_answer
   not_one n (not_well_formed p) e = absurd (omega arith)
   not_one n (already_overfull p q) e = absurd (omega arith)
-  not_one n (stamp-refused m p q s d) e = stamped_not_one (checked batches o.address o.stamp o.account) (s ∙ e)
+  not_one n (stamp_refused m p q s d) e = stamped_not_one (checked batches o.address o.stamp o.account) (s ∙ e)
   not_one n (settles m p q s g) e = settled_not_one n g e
 
 pub rkf_offer_refused : (book batches : List ℕ) (o : Offer) (r : ℕ) (t : List ℕ) → Bytes book → ByteOffer o

@@ -1,6 +1,6 @@
 // Books: opened, checked, and offered to; and the higher of two records.
 ghost use Rattle.std.specs.Prelude.{◌≡◌};
-ghost use Rattle.opening.specs.Open.{openAnswer, openBytes, open_number};
+ghost use Rattle.opening.specs.Open.{open_answer, open_bytes, open_number};
 ghost use Rattle.wellformed.specs.Check.{checked, book_number};
 ghost use Rattle.records.specs.Choice.{choice};
 ghost use Rattle.reserve.specs.Offer.{offered};
@@ -16,8 +16,8 @@ pub extern "C" fn rkf_open(
     capacity: u64,
     starting_depth: u64,
 ) -> u32
-    ensures value { result ≡ open_number (openAnswer book.old overlay.now capacity starting_depth) }
-    ensures book_after { book.new ≡ openBytes book.old overlay.now capacity starting_depth }
+    ensures value { result ≡ open_number (open_answer book.old overlay.now capacity starting_depth) }
+    ensures book_after { book.new ≡ open_bytes book.old overlay.now capacity starting_depth }
 {
     let answer = opening::open::open(book, overlay, capacity, starting_depth);
     answer.number()

@@ -6,7 +6,7 @@ use native.Mathlib.Omega.{arith}
 use lib.ListN.{length, take, drop, length-take}
 use Rattle.octets.specs.Number.{big_at}
 use Rattle.settling.specs.Book.{overfull, good, inside}
-use Rattle.settling.specs.Tally.{leastFit}
+use Rattle.settling.specs.Tally.{least_fit}
 use Rattle.settling.proofs.Inside.{inside_in_lem}
 use Rattle.settling.proofs.Places as places
 use Rattle.settling.proofs.Places.{kept_after}
@@ -47,7 +47,7 @@ module _ (s r : List ℕ) (i : ℕ) (w : Free s r i) where
     told : Counted (shape_in s) (r ∷ records_in s) (suc (depth_in s)) e
     told =
         let deep : depth_in s ≤ 16 = awaits.formed.depth in
-        let here : e ≡ leastFit (shape_in s) (16 - depth_in s) (suc (depth_in s)) (r ∷ records_in s) = found ∙ least_in_lem s r awaits.fits.size (there s (read s) (depth_in s) bytes e) in
+        let here : e ≡ least_fit (shape_in s) (16 - depth_in s) (suc (depth_in s)) (r ∷ records_in s) = found ∙ least_in_lem s r awaits.fits.size (there s (read s) (depth_in s) bytes e) in
         rw here (least_laws.counted (shape_in s) (16 - depth_in s) (suc (depth_in s)) (r ∷ records_in s) (omega arith))
 
     pub rise_bursts : 16 < e → (u : List ℕ) → u ≡ burst_bytes s → Ends s r 3 u

@@ -124,7 +124,7 @@ module _ (batches address stamp account : List ℕ) where
       let g = passing_is_bucketed batches address stamp account p (stamp_passes e) in
       let whole : length address ≡ 32 = g.address_whole in
       let stamped : length stamp ≡ 113 = g.stamp_whole in
-      let bucket : big (take 4 (drop 32 stamp)) ≡ big (take 2 address) = sym (big_at_fits 4 stamp 32 (omega (arith, stamped))) ∙ g.in_bucket_lem ∙ big_at_fits 2 address 0 (omega (arith, whole)) in
+      let bucket : big (take 4 (drop 32 stamp)) ≡ big (take 2 address) = sym (big_at_fits 4 stamp 32 (omega (arith, stamped))) ∙ g.own_bucket ∙ big_at_fits 2 address 0 (omega (arith, whole)) in
       let index : big (take 4 (drop 36 stamp)) < 2 ^ 24 = rw (← big_at_fits 4 stamp 36 (omega (arith, stamped))) (passing_index batches address stamp account (stamp_passes e)) in
       record {
         size = record_size address stamp whole stamped;

@@ -1,5 +1,6 @@
 // The offer to a book in bytes.
 #![tactic(auto)]
+
 mod enter;
 pub mod offer;
 mod place;

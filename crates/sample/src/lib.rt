@@ -1,5 +1,6 @@
 // The sample: the sixteen smallest pairs, and their commitment.
 #![tactic(auto)]
+
 mod commitment;
 mod keeping;
 

@@ -1,5 +1,6 @@
 // Segments of 32 bytes, as stretches of the caller's own data, of any length.
 #![tactic(auto)]
+
 ghost use Rattle.std.specs.Prelude.{◌≡◌, length};
 ghost use Rattle.merkle.specs.Segment.{segment_count, segment_start, segment_of, onward};
 

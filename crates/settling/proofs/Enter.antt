@@ -7,7 +7,7 @@ use lib.ListN.{length}
 use borrow.Author.Tests.{lt-ltb, le-ltb, eq-eqb, ne_eqb}
 use Rattle.settling.specs.Rank.{Shape, higher}
 use Rattle.settling.specs.Book.{enter}
-use Rattle.settling.specs.History.{enterAll}
+use Rattle.settling.specs.History.{enter_all}
 use Rattle.settling.proofs.Cases.{Side, below, level, above, side}
 use Rattle.settling.proofs.Rank.{higher_slot, higher_self, higher_comm, higher_assoc}
 
@@ -34,8 +34,8 @@ module _ {A : Type 0} (B : Shape A) where
       let n : slot a ≡ slot r → ⊥ = λ e. omega arith in
       rw (le-ltb (slot a) (slot r) k, ne_eqb (slot a) (slot r) n)
 
-  pub enter_all_cons : (l : List A) (a : A) (s : List A) → enterAll B l (a ∷ s) ≡ enterAll B (enter B a l) s
-  unfolding enterAll
+  pub enter_all_cons : (l : List A) (a : A) (s : List A) → enter_all B l (a ∷ s) ≡ enter_all B (enter B a l) s
+  unfolding enter_all
   enter_all_cons l a s = refl
 
   -- two records that both go in front of l
@@ -111,27 +111,27 @@ module _ {A : Type 0} (B : Shape A) where
       go ih (above q) = rw (enter_gt a r l q) (omega arith)
 
   -- a record entered before or after the others
-  pub enter_all_enter : (a : A) (l s : List A) → enterAll B (enter B a l) s ≡ enter B a (enterAll B l s)
-  unfolding enterAll
+  pub enter_all_enter : (a : A) (l s : List A) → enter_all B (enter B a l) s ≡ enter B a (enter_all B l s)
+  unfolding enter_all
   enter_all_enter a l [] = refl
   enter_all_enter a l (b ∷ s) = rw (enter_comm b a l) (enter_all_enter a (enter B b l) s)
 
-  pub enter_all_swap : (l s t : List A) → enterAll B (enterAll B l s) t ≡ enterAll B (enterAll B l t) s
-  unfolding enterAll
+  pub enter_all_swap : (l s t : List A) → enter_all B (enter_all B l s) t ≡ enter_all B (enter_all B l t) s
+  unfolding enter_all
   enter_all_swap l [] t = refl
   enter_all_swap l (a ∷ s) t = rw (enter_all_swap (enter B a l) s t, enter_all_enter a l t)
 
   -- what was entered already changes nothing
-  pub enter_all_again : (a : A) (l s : List A) → Memᴰ a s → enter B a (enterAll B l s) ≡ enterAll B l s
-  unfolding enterAll
+  pub enter_all_again : (a : A) (l s : List A) → Memᴰ a s → enter B a (enter_all B l s) ≡ enter_all B l s
+  unfolding enter_all
   enter_all_again a l s (Memᴰ.head {x = b} {xs = r} e) = rw (e, ← enter_all_enter b (enter B b l) r, enter_twice b l)
   enter_all_again a l s (Memᴰ.tail {x = b} {xs = r} m) = enter_all_again a (enter B b l) r m
 
-  pub enter_all_within : (l s t : List A) → ((a : A) → Memᴰ a t → Memᴰ a s) → enterAll B (enterAll B l s) t ≡ enterAll B l s
-  unfolding enterAll
+  pub enter_all_within : (l s t : List A) → ((a : A) → Memᴰ a t → Memᴰ a s) → enter_all B (enter_all B l s) t ≡ enter_all B l s
+  unfolding enter_all
   enter_all_within l s [] m = refl
   enter_all_within l s (b ∷ t) m = rw (enter_all_again b l s (m b (Memᴰ.head refl))) (enter_all_within l s t (λ a k. m a (Memᴰ.tail k)))
 
   -- the same members, in any order and with any repeats: the same records
-  pub enter_all_same : (l s t : List A) → ((a : A) → Memᴰ a s → Memᴰ a t) → ((a : A) → Memᴰ a t → Memᴰ a s) → enterAll B l s ≡ enterAll B l t
+  pub enter_all_same : (l s t : List A) → ((a : A) → Memᴰ a s → Memᴰ a t) → ((a : A) → Memᴰ a t → Memᴰ a s) → enter_all B l s ≡ enter_all B l t
   enter_all_same l s t p q = sym (enter_all_within l s t q) ∙ enter_all_swap l s t ∙ enter_all_within l t s p

@@ -42,6 +42,7 @@ module _ {A : Type 0} (B : Shape A) where
   holder_member r (h ∷ t) o (Memᴰ.tail m) =
       let k : slot h < slot r = each_member (λ x. slot h < slot x) r t o.0 m in
       holder_next (slot r) h t (λ e. omega arith) ∙ holder_member r t o.1 m
+  holder_member r [] o never = elim never [ ]
 
   -- whether a slot is held
   pub data Seat (k : ℕ) (l : List A) : Type 0 where
@@ -85,12 +86,14 @@ module _ {A : Type 0} (B : Shape A) where
     enter_same_length (h ∷ t) o (Memᴰ.tail m) =
         let k : slot h < slot r = each_member (λ x. slot h < slot x) r t o.0 m in
         rw (enter_gt B a h t (omega arith)) (ap suc (enter_same_length t o.1 m))
+    enter_same_length [] o never = elim never [ ]
 
     pub enter_unchanged : (l : List A) → Ascending B l → Memᴰ r l → beats a r ≡ false → enter B a l ≡ l
     enter_unchanged (h ∷ t) o (Memᴰ.head e) u = let f : beats a h ≡ false = rw (← e) u in rw (enter_eq B a h t (sym same_slot ∙ ap slot e), higher_first beats h a f)
     enter_unchanged (h ∷ t) o (Memᴰ.tail m) u =
         let k : slot h < slot r = each_member (λ x. slot h < slot x) r t o.0 m in
         rw (enter_gt B a h t (omega arith), enter_unchanged t o.1 m u)
+    enter_unchanged [] o never u = elim never [ ]
 
   -- a record is new where its slot is vacant or its holder is beaten: then it wasn't there, and enters
   pub data New (a : A) (l : List A) : Type 0 where

@@ -8,7 +8,7 @@ use lib.ListN.{length}
 use borrow.Author.Tests.{lt-leb, le-leb}
 use Rattle.settling.specs.Rank.{Shape, higher}
 use Rattle.settling.specs.Book.{enter, inside}
-use Rattle.settling.specs.History.{enterAll}
+use Rattle.settling.specs.History.{enter_all}
 use Rattle.settling.specs.Meaning.{Each, Ascending}
 use Rattle.settling.proofs.Cases.{Side, below, level, above, side, Limit, within, beyond, limit}
 use Rattle.settling.proofs.Rank.{higher_slot, Chosen, first, second, chosen}
@@ -114,8 +114,8 @@ module _ {A : Type 0} (B : Shape A) where
       go ih (level q) = rw (enter_eq B a r l q) (rw (higher_slot rank r a (sym q)) o.0, o.1)
       go ih (above q) = rw (enter_gt B a r l q) (each_enter (λ x. slot r < slot x) a l q o.0, ih)
 
-  pub ascending_enter_all : (l s : List A) → Ascending B l → Ascending B (enterAll B l s)
-  unfolding enterAll
+  pub ascending_enter_all : (l s : List A) → Ascending B l → Ascending B (enter_all B l s)
+  unfolding enter_all
   ascending_enter_all l [] o = o
   ascending_enter_all l (a ∷ s) o = ascending_enter_all (enter B a l) s (ascending_enter a l o)
 
@@ -124,8 +124,8 @@ module _ {A : Type 0} (B : Shape A) where
   enter_front a (r ∷ l) o = enter_lt B a r l o.0
 
   -- an ascending list is what its own records make
-  pub enter_all_ascending : (l : List A) → Ascending B l → enterAll B [] l ≡ l
-  unfolding enterAll
+  pub enter_all_ascending : (l : List A) → Ascending B l → enter_all B [] l ≡ l
+  unfolding enter_all
   enter_all_ascending [] o = refl
   enter_all_ascending (r ∷ l) o = enter_all_enter B r [] l ∙ rw (enter_all_ascending l o.1) (enter_front r l o.0)
 

@@ -9,7 +9,7 @@ use lib.Seq.{drop-cons, drop-length}
 use borrow.Author.Tests.{le-leb, lt-leb}
 use Rattle.settling.specs.Rank.{Shape}
 use Rattle.settling.specs.Book.{inside}
-use Rattle.settling.specs.Tally.{Counters, leastFit, total, least}
+use Rattle.settling.specs.Tally.{Counters, least_fit, total, least}
 use Rattle.settling.proofs.Cases.{from_next, Limit, within, beyond, limit}
 use Rattle.settling.proofs.Settle.{Full}
 use Rattle.settling.proofs.Counters.{total_cons, counters_total}
@@ -89,34 +89,34 @@ module _ {A : Type 0} (B : Shape A) where
     fits_at : c ≤ e → e ≤ top → length (inside B e s) ≤ capacity → ((x : ℕ) → c ≤ x → x < e → Full B s x) → Counted s c e
     fits_nowhere : e ≡ suc top → ((x : ℕ) → c ≤ x → x ≤ top → Full B s x) → Counted s c e
 
-  fit_none : (c : ℕ) (s : List A) → leastFit B zero c s ≡ c
-  unfolding leastFit
+  fit_none : (c : ℕ) (s : List A) → least_fit B zero c s ≡ c
+  unfolding least_fit
   fit_none c s = refl
 
-  fit_here : (n c : ℕ) (s : List A) → length (inside B c s) ≤ capacity → leastFit B (suc n) c s ≡ c
-  unfolding leastFit
+  fit_here : (n c : ℕ) (s : List A) → length (inside B c s) ≤ capacity → least_fit B (suc n) c s ≡ c
+  unfolding least_fit
   fit_here n c s h = rw (le-leb (length (inside B c s)) capacity h)
 
-  fit_next : (n c : ℕ) (s : List A) → capacity < length (inside B c s) → leastFit B (suc n) c s ≡ leastFit B n (suc c) s
-  unfolding leastFit
+  fit_next : (n c : ℕ) (s : List A) → capacity < length (inside B c s) → least_fit B (suc n) c s ≡ least_fit B n (suc c) s
+  unfolding least_fit
   fit_next n c s h = rw (lt-leb (length (inside B c s)) capacity h)
 
-  pub counted : (n c : ℕ) (s : List A) → n + c ≡ suc top → Counted s c (leastFit B n c s)
+  pub counted : (n c : ℕ) (s : List A) → n + c ≡ suc top → Counted s c (least_fit B n c s)
   counted zero c s e = rw (fit_none c s) (fits_nowhere (omega arith) (λ x p q. absurd (omega arith)))
   counted (suc n) c s e = go (counted n (suc c) s (omega arith)) (limit (length (inside B c s)) capacity)
     where
-      later : Full B s c → Counted s (suc c) (leastFit B n (suc c) s) → Counted s c (leastFit B n (suc c) s)
+      later : Full B s c → Counted s (suc c) (least_fit B n (suc c) s) → Counted s c (least_fit B n (suc c) s)
       later h (fits_at p q f u) = fits_at (omega arith) q f (λ x k m. from_next (Full B s) c h x k (λ j. u x j m))
       later h (fits_nowhere p u) = fits_nowhere p (λ x k m. from_next (Full B s) c h x k (λ j. u x j m))
 
-      go : Counted s (suc c) (leastFit B n (suc c) s) → Limit (length (inside B c s)) capacity → Counted s c (leastFit B (suc n) c s)
+      go : Counted s (suc c) (least_fit B n (suc c) s) → Limit (length (inside B c s)) capacity → Counted s c (least_fit B (suc n) c s)
       go ih (within h) = rw (fit_here n c s h) (fits_at (omega arith) (omega (arith, e)) h (λ x k m. absurd (omega arith)))
       go ih (beyond h) = rw (fit_next n c s h) (later h ih)
 
   -- the counters tell it
-  pub least_fit : (n c : ℕ) (t : List ℕ) (s : List A) → Counters B t s → n ≡ suc top - c → least capacity c (drop c t) ≡ leastFit B n c s
-  least_fit zero c t s w e = let z : length t ≡ suc top = w.size in least_end capacity t c (omega arith) ∙ sym (fit_none c s)
-  least_fit (suc n) c t s w e = go (least_fit n (suc c) t s w (omega arith)) (limit (length (inside B c s)) capacity)
+  pub least_fit_lem : (n c : ℕ) (t : List ℕ) (s : List A) → Counters B t s → n ≡ suc top - c → least capacity c (drop c t) ≡ least_fit B n c s
+  least_fit_lem zero c t s w e = let z : length t ≡ suc top = w.size in least_end capacity t c (omega arith) ∙ sym (fit_none c s)
+  least_fit_lem (suc n) c t s w e = go (least_fit_lem n (suc c) t s w (omega arith)) (limit (length (inside B c s)) capacity)
     where
       many : total (drop c t) ≡ length (inside B c s)
       many = counters_total B n c t s w (omega arith)
@@ -124,6 +124,6 @@ module _ {A : Type 0} (B : Shape A) where
       inlist : c < length t
       inlist = let z : length t ≡ suc top = w.size in omega arith
 
-      go : least capacity (suc c) (drop (suc c) t) ≡ leastFit B n (suc c) s → Limit (length (inside B c s)) capacity → least capacity c (drop c t) ≡ leastFit B (suc n) c s
+      go : least capacity (suc c) (drop (suc c) t) ≡ least_fit B n (suc c) s → Limit (length (inside B c s)) capacity → least capacity c (drop c t) ≡ least_fit B (suc n) c s
       go ih (within h) = least_here capacity t c inlist (omega (arith, many, h)) ∙ sym (fit_here n c s h)
       go ih (beyond h) = least_next capacity t c inlist (omega (arith, many, h)) ∙ ih ∙ sym (fit_next n c s h)

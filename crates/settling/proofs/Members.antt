@@ -7,7 +7,7 @@ use mathlib.Core.List.Memᴰ
 use mathlib.Core.List.{List, [], ◌∷◌, Memᴰ}
 use Rattle.settling.specs.Rank.{Shape, higher}
 use Rattle.settling.specs.Book.{enter, inside}
-use Rattle.settling.specs.History.{enterAll}
+use Rattle.settling.specs.History.{enter_all}
 use Rattle.settling.specs.Meaning.{Each, Ascending}
 use Rattle.settling.proofs.Cases.{Side, below, level, above, side, Limit, within, beyond, limit}
 use Rattle.settling.proofs.Rank.{Chosen, first, second, chosen, AtLeast, atleast_trans, unbeaten_atleast}
@@ -17,6 +17,7 @@ use Rattle.settling.proofs.Inside.{inside_nil, inside_in_lem, inside_out, enter_
 pub each_member : {A : Type 0} (P : A → Type 0) (r : A) (l : List A) → Each P l → Memᴰ r l → P r
 each_member P r (q ∷ l) o (Memᴰ.head e) = rw e o.0
 each_member P r (q ∷ l) o (Memᴰ.tail m) = each_member P r l o.1 m
+each_member P r [] o never = elim never [ ]
 
 module _ {A : Type 0} (B : Shape A) where
   open B use {slot, beats, near, rank}
@@ -50,6 +51,7 @@ module _ {A : Type 0} (B : Shape A) where
   ascending_one r q (h ∷ t) o (Memᴰ.head e) (Memᴰ.tail n) s = absurd (omega (arith, each_member (λ x. slot h < slot x) q t o.0 n, ap slot e))
   ascending_one r q (h ∷ t) o (Memᴰ.tail m) (Memᴰ.head f) s = absurd (omega (arith, each_member (λ x. slot h < slot x) r t o.0 m, ap slot f))
   ascending_one r q (h ∷ t) o (Memᴰ.tail m) (Memᴰ.tail n) s = ascending_one r q t o.1 m n s
+  ascending_one r q [] o never _ s = elim never [ ]
 
   pub ascending_equal : (l m : List A) → Ascending B l → Ascending B m → ((a : A) → Memᴰ a l → Memᴰ a m) → ((a : A) → Memᴰ a m → Memᴰ a l) → l ≡ m
   ascending_equal l m o p f g = sym (enter_all_ascending B l o) ∙ enter_all_same B [] l m f g ∙ enter_all_ascending B m p
@@ -72,8 +74,8 @@ module _ {A : Type 0} (B : Shape A) where
       go ih (level p) (second u e) = up (Memᴰ.cases_cons (rw (enter_eq B a h t p, e) at m))
       go ih (above p) c = step ih (Memᴰ.cases_cons (rw (enter_gt B a h t p) at m))
 
-  pub enter_all_member : (r : A) (l s : List A) → Memᴰ r (enterAll B l s) → Memᴰ r l ⊎ Memᴰ r s
-  unfolding enterAll
+  pub enter_all_member : (r : A) (l s : List A) → Memᴰ r (enter_all B l s) → Memᴰ r l ⊎ Memᴰ r s
+  unfolding enter_all
   enter_all_member r l [] m = inl m
   enter_all_member r l (a ∷ s) m = go (enter_all_member r (enter B a l) s m)
     where
@@ -130,12 +132,12 @@ module _ {A : Type 0} (B : Shape A) where
   held_trans : (r q : A) (l : List A) → slot q ≡ slot r → AtLeast rank q r → Held q l → Held r l
   held_trans r q l s h k = record { by = k.by; there = k.there; same_slot = k.same_slot ∙ s; at_least = atleast_trans rank k.by q r k.same_slot s k.at_least h }
 
-  pub enter_all_holds : (r : A) (l s : List A) → Held r l → Held r (enterAll B l s)
-  unfolding enterAll
+  pub enter_all_holds : (r : A) (l s : List A) → Held r l → Held r (enter_all B l s)
+  unfolding enter_all
   enter_all_holds r l [] k = k
   enter_all_holds r l (a ∷ s) k = enter_all_holds r (enter B a l) s (held_trans r k.by (enter B a l) k.same_slot k.at_least (enter_holds k.by a l k.there))
 
-  pub enter_all_held : (r : A) (l s : List A) → Memᴰ r s → Held r (enterAll B l s)
-  unfolding enterAll
+  pub enter_all_held : (r : A) (l s : List A) → Memᴰ r s → Held r (enter_all B l s)
+  unfolding enter_all
   enter_all_held r l s (Memᴰ.head {x = a} {xs = t} e) = rw e (enter_all_holds a (enter B a l) t (enter_held a l))
   enter_all_held r l s (Memᴰ.tail {x = a} {xs = t} m) = enter_all_held r (enter B a l) t m

@@ -104,6 +104,7 @@ module _ {A : Type 0} (B : Shape A) (z : A) where
       from_first : (l : List A) → Ascending B l → (0 < length l → k < slot_at l 0) → (r : A) → Memᴰ r l → k < slot r
       from_first (q ∷ l) o v r (Memᴰ.head e) = rw e (v (omega arith))
       from_first (q ∷ l) o v r (Memᴰ.tail m) = let x : slot q < slot r = each_member (λ y. slot q < slot y) r l o.0 m in let y : k < slot q = v (omega arith) in omega arith
+      from_first [] o v r never = elim never [ ]
   vacant_at k [] (suc i) o w v r m e = absurd (omega (arith, w.bounded))
   vacant_at k (q ∷ l) (suc i) o w v r (Memᴰ.head f) e = absurd (omega (arith, w.lower zero (omega arith), ap slot f))
   vacant_at k (q ∷ l) (suc i) o w v r (Memᴰ.tail m) e = vacant_at k l i o.1 (place_tail q l k i w) (λ h. v (omega arith)) r m e

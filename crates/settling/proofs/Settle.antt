@@ -8,7 +8,7 @@ use lib.ListN.{length}
 use borrow.Author.Tests.{lt-leb, le-leb, lt-ltb, le-ltb}
 use Rattle.settling.specs.Rank.{Shape}
 use Rattle.settling.specs.Book.{overfull, good, enter, inside, settle, offer}
-use Rattle.settling.specs.History.{run, enterAll}
+use Rattle.settling.specs.History.{run, enter_all}
 use Rattle.settling.specs.Meaning.{Each, Ascending}
 use Rattle.settling.proofs.Cases.{Side, below, level, above, side, from_next, Limit, within, beyond, limit}
 use Rattle.settling.proofs.Inside.{inside_inside, inside_all, inside_inner, inside_enter_in, inside_enter_out, inside_more, ascending_inside, ascending_enter}
@@ -130,7 +130,7 @@ module _ {A : Type 0} (B : Shape A) where
           let m : length (inside B d l) ≤ length (inside B d (enter B a l)) = inside_more B d a l o in
           rw (settle_next n d l p, settle_next n d (enter B a l) (omega arith)) ih
 
-  pub run_settle : (n d : ℕ) (l s : List A) → n + d ≡ suc top → Ascending B l → run B (settle B n d l) s ≡ settle B n d (enterAll B l s)
-  unfolding run enterAll
+  pub run_settle : (n d : ℕ) (l s : List A) → n + d ≡ suc top → Ascending B l → run B (settle B n d l) s ≡ settle B n d (enter_all B l s)
+  unfolding run enter_all
   run_settle n d l [] e o = refl
   run_settle n d l (a ∷ s) e o = rw (offer_settle n d l a e o) (run_settle n d (enter B a l) s e (ascending_enter B a l o))

@@ -22,9 +22,11 @@ module _ {A : Type 0} (B : Shape A) where
 
   outside_told : (b : State A) (a : A) → Outside B b a → outcome B b a ≡ 20
   outside_told (good d l) a p = outcome_far B d l a p
+  outside_told overfull a p = elim p [ ]
 
   very_told : (b : State A) (a : A) → Sound B b → Holds B b a → outcome B b a ≡ 21
   very_told (good d l) a w m = outcome_very B d l a (each_member (λ r. d ≤ near (slot r)) a l w.inner m) (holder_member B a l w.ascending m)
+  very_told overfull a w m = elim m [ ]
 
   outranked_told : (b : State A) (a : A) → Sound B b → Outranked B b a → outcome B b a ≡ 22
   outranked_told overfull a w r = absurd r.held
@@ -38,12 +40,15 @@ module _ {A : Type 0} (B : Shape A) where
   -- what an offer that changed the book ended in
   taken_held : (c : State A) (a : A) → Sound B c → Holds B c a → taken B a c ≡ 0
   taken_held (good e m) a w h = taken_inside B a e m (each_member (λ r. e ≤ near (slot r)) a m w.inner h)
+  taken_held overfull a w h = elim h [ ]
 
   taken_gone : (c : State A) (a : A) → Outside B c a → taken B a c ≡ 2
   taken_gone (good e m) a p = taken_outside B a e m p
+  taken_gone overfull a p = elim p [ ]
 
   raised_self : (b : State A) → Raised B b b → ⊥
   raised_self (good d l) p = omega arith
+  raised_self overfull p = elim p [ ]
 
   told : (b : State A) (a : A) (n : ℕ) → Sound B b → Given B b a n → outcome B b a ≡ n
   told b a n w (kept f h) = changed B b a w (λ e. f (subst (λ (c : State A). Holds B c a) e h)) ∙ taken_held (offer B b a) a (offer_sound B b a w) h

@@ -9,7 +9,7 @@ use mathlib.Core.List.{List, [], Memᴰ}
 use lib.ListN.{length}
 use Rattle.settling.specs.Rank.{Shape}
 use Rattle.settling.specs.Book.{State, good, inside, settle}
-use Rattle.settling.specs.History.{enterAll, winners, settled}
+use Rattle.settling.specs.History.{enter_all, winners, settled}
 use Rattle.settling.specs.Meaning.{Ascending, Wins, Winners, Crowded, Settles, fitting, bursting}
 use Rattle.settling.proofs.Cases.{Side, below, level, above, side, true_false, not_true}
 use Rattle.settling.proofs.Rank.{AtLeast, not_atleast}
@@ -24,26 +24,26 @@ module _ {A : Type 0} (B : Shape A) where
   from_none r s (inl k) = absurd (Memᴰ.not-nil k)
   from_none r s (inr k) = k
 
-  offered_in : (r : A) (s : List A) → Memᴰ r (enterAll B [] s) → Memᴰ r s
+  offered_in : (r : A) (s : List A) → Memᴰ r (enter_all B [] s) → Memᴰ r s
   offered_in r s m = from_none r s (enter_all_member B r [] s m)
 
-  member_wins : (s : List A) (r : A) → Memᴰ r (enterAll B [] s) → Wins B s r
+  member_wins : (s : List A) (r : A) → Memᴰ r (enter_all B [] s) → Wins B s r
   member_wins s r m = record { offered = offered_in r s m; unbeaten = λ q k e. not_true (beats q r) (λ b. lost q e b (enter_all_held B q [] s k)) }
     where
       -- the slot's holder is r, and r is at least what beats it
-      lost : (q : A) → slot q ≡ slot r → beats q r ≡ true → Held B q (enterAll B [] s) → ⊥
+      lost : (q : A) → slot q ≡ slot r → beats q r ≡ true → Held B q (enter_all B [] s) → ⊥
       lost q e b h =
-          let f : h.by ≡ r = ascending_one B h.by r (enterAll B [] s) (ascending_enter_all B [] s tt) h.there m (h.same_slot ∙ e) in
+          let f : h.by ≡ r = ascending_one B h.by r (enter_all B [] s) (ascending_enter_all B [] s tt) h.there m (h.same_slot ∙ e) in
           not_atleast rank q r e b (rw f at h.at_least)
 
-  wins_member : (s : List A) (r : A) → Wins B s r → Memᴰ r (enterAll B [] s)
+  wins_member : (s : List A) (r : A) → Wins B s r → Memᴰ r (enter_all B [] s)
   wins_member s r w = go (enter_all_held B r [] s w.offered)
     where
-      cast : (h : Held B r (enterAll B [] s)) → AtLeast rank h.by r → Memᴰ r (enterAll B [] s)
+      cast : (h : Held B r (enter_all B [] s)) → AtLeast rank h.by r → Memᴰ r (enter_all B [] s)
       cast h (inl e) = Memᴰ.cast (sym e) h.there
       cast h (inr b) = absurd (true_false (sym b ∙ w.unbeaten h.by (offered_in h.by s h.there) h.same_slot))
 
-      go : Held B r (enterAll B [] s) → Memᴰ r (enterAll B [] s)
+      go : Held B r (enter_all B [] s) → Memᴰ r (enter_all B [] s)
       go h = cast h h.at_least
 
   pub winners_ascending : (s : List A) → Ascending B (winners B s)
@@ -53,10 +53,10 @@ module _ {A : Type 0} (B : Shape A) where
   pub winners_inside : (s : List A) (d : ℕ) → Winners B s d (inside B d (winners B s))
   unfolding winners
   winners_inside s d = record {
-    ascending = ascending_inside B d (enterAll B [] s) (winners_ascending s);
+    ascending = ascending_inside B d (enter_all B [] s) (winners_ascending s);
     members = λ r. (
-      λ m. let k : Memᴰ r (enterAll B [] s) × (d ≤ near (slot r)) = inside_member B d r (enterAll B [] s) m in (member_wins s r k.0, k.1),
-      λ w. member_inside B d r (enterAll B [] s) (wins_member s r w.0) w.1,
+      λ m. let k : Memᴰ r (enter_all B [] s) × (d ≤ near (slot r)) = inside_member B d r (enter_all B [] s) m in (member_wins s r k.0, k.1),
+      λ w. member_inside B d r (enter_all B [] s) (wins_member s r w.0) w.1,
     );
   }
 

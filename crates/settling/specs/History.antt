@@ -22,13 +22,13 @@ module _ {A : Type 0} (B : Shape A) where
   hand b (some a) = offer B b a
 
   -- the records of s entered into l, one after another
-  unfoldable pub enterAll : List A → List A → List A
-  enterAll l [] = l
-  enterAll l (a ∷ s) = enterAll (enter B a l) s
+  unfoldable pub enter_all : List A → List A → List A
+  enter_all l [] = l
+  enter_all l (a ∷ s) = enter_all (enter B a l) s
 
   -- of each slot the highest rank
   unfoldable pub winners : List A → List A
-  winners s = enterAll [] s
+  winners s = enter_all [] s
 
   -- what offers settle to, said without a history: the winners inside the least depth from the starting depth on at which they fit
   unfoldable pub settled : ℕ → List A → State A

@@ -21,9 +21,9 @@ module _ {A : Type 0} (B : Shape A) where
     pub each : (m : ℕ) → m ≤ top → get_or t m 0 ≡ tally m l
 
   -- Of n depths from d on the least at which those of the records that lie inside it fit; one past the last where there is none.
-  unfoldable pub leastFit : ℕ → ℕ → List A → ℕ
-  leastFit zero d l = d
-  leastFit (suc n) d l = cond (leb (length (inside B d l)) capacity) d (leastFit n (suc d) l)
+  unfoldable pub least_fit : ℕ → ℕ → List A → ℕ
+  least_fit zero d l = d
+  least_fit (suc n) d l = cond (leb (length (inside B d l)) capacity) d (least_fit n (suc d) l)
 
 unfoldable pub total : List ℕ → ℕ
 total [] = 0

@@ -6,6 +6,7 @@ use chunk::address;
 use draw::draw;
 use moving::put;
 use octets::number::read64;
+use std::io;
 
 // The span of a chunk of one byte.
 const SPAN: [u8; 8] = [1, 0, 0, 0, 0, 0, 0, 0];
@@ -14,13 +15,14 @@ const SPAN: [u8; 8] = [1, 0, 0, 0, 0, 0, 0, 0];
 const CELL: usize = 11;
 
 // Fifteen slots, then sixteen, since a chunk that holds two slots stands twice on the shelf and makes one pair.
-pub(crate) fn run(tally: Tally) -> Tally {
+pub(crate) fn run(rt: &impl Print, tally: Tally) -> io::Result<Tally> {
     let mut book = [0u8; BOOK];
     opened(&mut book);
     keep(&mut book);
-    let tally = tally.number(b"Fifteen distinct chunks", 26, fifteen(&book));
+    let tally = tally.number(rt, b"Fifteen distinct chunks", 26, fifteen(&book))?;
     offered(&mut book, ROOMY, chunk_address(0), 15, 0);
     tally.number(
+        rt,
         b"Fifteen distinct chunks, one of them in two slots",
         26,
         sixteen(&book),

@@ -2,16 +2,18 @@
 use crate::tally::Tally;
 use keccak::{Sponge, keccak256};
 use moving::put;
+use std::io;
 
 // Padding, parts, and a stale state.
-pub(crate) fn run(tally: Tally) -> Tally {
-    let tally = padding(tally);
-    let tally = parts(tally);
+pub(crate) fn run(rt: &impl Print, tally: Tally) -> io::Result<Tally> {
+    let tally = padding(rt, tally)?;
+    let tally = parts(rt, tally)?;
     let stale = Sponge {
         lanes: [7u64; 25],
         place: 136,
     };
     tally.digest(
+        rt,
         b"A hash state whose place is 136 counts as a fresh one",
         Sponge::new().finish(),
         stale.finish(),
@@ -19,12 +21,13 @@ pub(crate) fn run(tally: Tally) -> Tally {
 }
 
 // The block that ends in 0x81, taken as a message, leaves the state whose first 32 bytes are the digest of its 135 bytes.
-fn padding(tally: Tally) -> Tally {
+fn padding(rt: &impl Print, tally: Tally) -> io::Result<Tally> {
     let message = [0x5au8; 135];
     let mut block = [0x5au8; 136];
     block[135] = 0x81;
     let permuted = Sponge::new().absorb(&block);
     tally.digest(
+        rt,
         b"With 135 bytes in the last block the single padding byte is 0x81",
         first_lanes(permuted),
         keccak256(&message),
@@ -32,12 +35,13 @@ fn padding(tally: Tally) -> Tally {
 }
 
 // One message whole and in three parts, the second of which passes a block's end.
-fn parts(tally: Tally) -> Tally {
+fn parts(rt: &impl Print, tally: Tally) -> io::Result<Tally> {
     let first = [1u8; 10];
     let second = [2u8; 150];
     let third = [3u8; 40];
     let sponge = Sponge::new().absorb(&first).absorb(&second).absorb(&third);
     tally.digest(
+        rt,
         b"A message handed over as several parts hashes as the joined parts",
         joined(),
         sponge.finish(),

@@ -2,6 +2,7 @@
 use crate::tally::Tally;
 use chunk::address;
 use proving::make_proof;
+use std::io;
 use verifying::check_proof;
 
 // A full chunk's span and data, and a byte more.
@@ -12,13 +13,13 @@ const FULL: usize = 4096;
 const LONGER: usize = 4097;
 
 // Each index made and checked; the refused making leaves the proof of index 127.
-pub(crate) fn run(tally: Tally) -> Tally {
+pub(crate) fn run(rt: &impl Print, tally: Tally) -> io::Result<Tally> {
     let mut proof = [0u8; 264];
-    let tally = tally.number(b"Index 127 passes, made", 0, made(127, &mut proof));
-    let tally = tally.number(b"Index 127 passes, checked", 0, checked(127, &proof));
-    let tally = tally.number(b"128 gives, made", 11, made(128, &mut proof));
-    let tally = tally.number(b"128 gives, checked", 11, checked(128, &proof));
-    too_long(tally)
+    let tally = tally.number(rt, b"Index 127 passes, made", 0, made(127, &mut proof))?;
+    let tally = tally.number(rt, b"Index 127 passes, checked", 0, checked(127, &proof))?;
+    let tally = tally.number(rt, b"128 gives, made", 11, made(128, &mut proof))?;
+    let tally = tally.number(rt, b"128 gives, checked", 11, checked(128, &proof))?;
+    too_long(rt, tally)
 }
 
 // What making a full chunk's proof answers.
@@ -37,9 +38,9 @@ fn checked(index: u64, proof: &[u8]) -> u64 {
     check_proof(&address, index, proof).number() as u64
 }
 
-fn too_long(tally: Tally) -> Tally {
-    let tally = tally.number(b"4,097 bytes, address", 12, longer_address());
-    tally.number(b"4,097 bytes, proof made", 12, longer_made())
+fn too_long(rt: &impl Print, tally: Tally) -> io::Result<Tally> {
+    let tally = tally.number(rt, b"4,097 bytes, address", 12, longer_address())?;
+    tally.number(rt, b"4,097 bytes, proof made", 12, longer_made())
 }
 
 // What the address of a byte more answers.

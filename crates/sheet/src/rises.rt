@@ -2,26 +2,29 @@
 use crate::stamped::{BOOK, ROOMY, offered, opened};
 use crate::tally::{Tally, heading};
 use book::header::{count, depth};
+use std::io;
 
 // The three examples of a seventeenth slot.
-pub(crate) fn run(tally: Tally) -> Tally {
-    heading(b"Capacity 16, starting depth 0, overlay zero:\n");
-    let tally = nine_and_seven(tally);
-    let tally = eight_of_each(tally);
-    one_bucket(tally)
+pub(crate) fn run(rt: &impl Print, tally: Tally) -> io::Result<Tally> {
+    heading(rt, b"Capacity 16, starting depth 0, overlay zero:\n")?;
+    let tally = nine_and_seven(rt, tally)?;
+    let tally = eight_of_each(rt, tally)?;
+    one_bucket(rt, tally)
 }
 
-fn nine_and_seven(tally: Tally) -> Tally {
+fn nine_and_seven(rt: &impl Print, tally: Tally) -> io::Result<Tally> {
     let mut book = [0u8; BOOK];
     two_sides(&mut book, 9, 7);
     let tally = tally.number(
+        rt,
         b"Sixteen slots with first byte 0x80 (nine) and 0x40 (seven), count",
         16,
         count(&book) as u64,
-    );
+    )?;
     let answer = offered(&mut book, ROOMY, address(0x40, true, 16), 16, 1);
-    let tally = tally.number(b"A seventeenth at 0x40 gives", 0, answer);
+    let tally = tally.number(rt, b"A seventeenth at 0x40 gives", 0, answer)?;
     risen(
+        rt,
         tally,
         b"A seventeenth at 0x40, depth",
         b"A seventeenth at 0x40, count",
@@ -29,13 +32,19 @@ fn nine_and_seven(tally: Tally) -> Tally {
     )
 }
 
-fn eight_of_each(tally: Tally) -> Tally {
+fn eight_of_each(rt: &impl Print, tally: Tally) -> io::Result<Tally> {
     let mut book = [0u8; BOOK];
     two_sides(&mut book, 8, 8);
-    let tally = tally.number(b"With eight of each, count", 16, count(&book) as u64);
+    let tally = tally.number(rt, b"With eight of each, count", 16, count(&book) as u64)?;
     let answer = offered(&mut book, ROOMY, address(0x80, true, 16), 16, 1);
-    let tally = tally.number(b"With eight of each and a seventeenth at 0x80", 2, answer);
+    let tally = tally.number(
+        rt,
+        b"With eight of each and a seventeenth at 0x80",
+        2,
+        answer,
+    )?;
     risen(
+        rt,
         tally,
         b"With eight of each and a seventeenth at 0x80, depth",
         b"With eight of each and a seventeenth at 0x80, count",
@@ -51,18 +60,34 @@ fn two_sides(book: &mut [u8], first: u8, second: u8) {
 }
 
 // Depth 1 and count 8.
-fn risen(tally: Tally, on_depth: &[u8], on_count: &[u8], book: &[u8]) -> Tally {
-    let tally = tally.number(on_depth, 1, depth(book) as u64);
-    tally.number(on_count, 8, count(book) as u64)
+fn risen(
+    rt: &impl Print,
+    tally: Tally,
+    on_depth: &[u8],
+    on_count: &[u8],
+    book: &[u8],
+) -> io::Result<Tally> {
+    let tally = tally.number(rt, on_depth, 1, depth(book) as u64)?;
+    tally.number(rt, on_count, 8, count(book) as u64)
 }
 
-fn one_bucket(tally: Tally) -> Tally {
+fn one_bucket(rt: &impl Print, tally: Tally) -> io::Result<Tally> {
     let mut book = [0u8; BOOK];
     opened(&mut book);
     fill(&mut book, 0x00, false, 16);
-    let tally = tally.number(b"Sixteen slots in bucket 0, count", 16, count(&book) as u64);
+    let tally = tally.number(
+        rt,
+        b"Sixteen slots in bucket 0, count",
+        16,
+        count(&book) as u64,
+    )?;
     let answer = offered(&mut book, ROOMY, address(0x00, false, 16), 16, 1);
-    tally.number(b"Seventeen slots in bucket 0: the last gives", 3, answer)
+    tally.number(
+        rt,
+        b"Seventeen slots in bucket 0: the last gives",
+        3,
+        answer,
+    )
 }
 
 // Offers so many slots, from place 0 on.

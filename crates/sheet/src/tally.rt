@@ -1,5 +1,5 @@
 // What the examples came to. A line is an example in document 01's words, what was expected, what came, and the verdict.
-use libc::STDOUT_FILENO;
+use std::io;
 use verdict::count::one_more;
 use verdict::equal::{Verdict, judged, judged_digest};
 
@@ -19,73 +19,92 @@ impl Tally {
     }
 
     // One number more.
-    pub(crate) fn number(self, example: &[u8], expected: u64, came: u64) -> Tally {
-        write(example);
-        write(b": expected ");
-        io::print_decimal(STDOUT_FILENO, expected);
-        write(b", came ");
-        io::print_decimal(STDOUT_FILENO, came);
-        self.with(judged(expected, came))
+    pub(crate) fn number(
+        self,
+        rt: &impl Print,
+        example: &[u8],
+        expected: u64,
+        came: u64,
+    ) -> io::Result<Tally> {
+        write(rt, example)?;
+        write(rt, b": expected ")?;
+        print!(rt; "{expected}")?;
+        write(rt, b", came ")?;
+        print!(rt; "{came}")?;
+        self.with(rt, judged(expected, came))
     }
 
     // Four bytes more, each number the big-endian one of the bytes.
-    pub(crate) fn bytes(self, example: &[u8], expected: u32, came: u32) -> Tally {
-        write(example);
-        write(b": expected ");
-        io::print_hex(STDOUT_FILENO, expected as u64, 8);
-        write(b", came ");
-        io::print_hex(STDOUT_FILENO, came as u64, 8);
-        self.with(judged(expected as u64, came as u64))
+    pub(crate) fn bytes(
+        self,
+        rt: &impl Print,
+        example: &[u8],
+        expected: u32,
+        came: u32,
+    ) -> io::Result<Tally> {
+        write(rt, example)?;
+        write(rt, b": expected ")?;
+        print!(rt; "{expected:08x}")?;
+        write(rt, b", came ")?;
+        print!(rt; "{came:08x}")?;
+        self.with(rt, judged(expected as u64, came as u64))
     }
 
     // One digest more.
-    pub(crate) fn digest(self, example: &[u8], expected: [u8; 32], came: [u8; 32]) -> Tally {
-        write(example);
-        write(b": expected ");
-        write_hex(expected);
-        write(b", came ");
-        write_hex(came);
-        self.with(judged_digest(expected, came))
+    pub(crate) fn digest(
+        self,
+        rt: &impl Print,
+        example: &[u8],
+        expected: [u8; 32],
+        came: [u8; 32],
+    ) -> io::Result<Tally> {
+        write(rt, example)?;
+        write(rt, b": expected ")?;
+        write_hex(rt, expected)?;
+        write(rt, b", came ")?;
+        write_hex(rt, came)?;
+        self.with(rt, judged_digest(expected, came))
     }
 
     // Ends the line with the verdict, and counts it.
-    fn with(mut self, verdict: Verdict) -> Tally {
+    fn with(mut self, rt: &impl Print, verdict: Verdict) -> io::Result<Tally> {
         match verdict {
             Verdict::Equal => {
-                write(b", equal\n");
+                write(rt, b", equal\n")?;
                 self.equal = one_more(self.equal);
-                self
+                Ok(self)
             }
             Verdict::Differs => {
-                write(b", DIFFERS\n");
+                write(rt, b", DIFFERS\n")?;
                 self.differ = one_more(self.differ);
-                self
+                Ok(self)
             }
         }
     }
 
     // The last line.
-    pub(crate) fn report(self) {
-        write(b"Settled examples: ");
-        io::print_decimal(STDOUT_FILENO, self.equal);
-        write(b" equal, ");
-        io::print_decimal(STDOUT_FILENO, self.differ);
-        write(b" differ\n");
+    pub(crate) fn report(self, rt: &impl Print) -> io::Result<()> {
+        write(rt, b"Settled examples: ")?;
+        print!(rt; "{}", self.equal)?;
+        write(rt, b" equal, ")?;
+        print!(rt; "{}", self.differ)?;
+        write(rt, b" differ\n")
     }
 }
 
 // What the lines after it are about.
-pub(crate) fn heading(words: &[u8]) {
-    write(words);
+pub(crate) fn heading(rt: &impl Print, words: &[u8]) -> io::Result<()> {
+    write(rt, words)
 }
 
-fn write(words: &[u8]) {
-    io::write_all(STDOUT_FILENO, words);
+fn write(rt: &impl Print, words: &[u8]) -> io::Result<()> {
+    rt.write_all(words)
 }
 
 // Two digits a byte.
-fn write_hex(digest: [u8; 32]) {
-    for i in 0..32 {
-        io::print_hex(STDOUT_FILENO, digest[i] as u64, 2);
+fn write_hex(rt: &impl Print, digest: [u8; 32]) -> io::Result<()> {
+    for byte in digest {
+        print!(rt; "{byte:02x}")?;
     }
+    Ok(())
 }

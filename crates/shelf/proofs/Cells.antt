@@ -76,26 +76,26 @@ is_sound_lem Mismatch h = absurd (false≢true h)
 -- ---- what is handed back
 
 module _ (s address anchor : List ℕ) where
-  abbrev sound-read : CellAnswer → ℕ → List ℕ → CellRead
-  sound-read a n pair = record { answer = a; size = 10 + n; pair = pair }
+  abbrev sound_read : CellAnswer → ℕ → List ℕ → CellRead
+  sound_read a n pair = record { answer = a; size = 10 + n; pair = pair }
 
-  abbrev wrong-read : CellAnswer → CellRead
-  wrong-read a = record { answer = a; size = 0; pair = replicate 64 0 }
+  abbrev wrong_read : CellAnswer → CellRead
+  wrong_read a = record { answer = a; size = 0; pair = replicate 64 0 }
 
   pub sound_is : (a : CellAnswer) → a ≡ cell_answer address s → is_sound a ≡ true → (n : ℕ) → n ≡ size_in s → (pair : List ℕ) → pair ≡ pair_read anchor (cell_in s)
-      → sound-read a n pair ≡ cell_read s address anchor
+      → sound_read a n pair ≡ cell_read s address anchor
   unfolding cell_read
   sound_is a e h n f pair g =
       let there : is_sound (cell_answer address s) ≡ true = ap is_sound (sym e) ∙ h in
-      rw there (λ i. sound-read (is_sound_lem a h i) (f i) (g i))
+      rw there (λ i. sound_read (is_sound_lem a h i) (f i) (g i))
 
-  pub wrong_is : (a : CellAnswer) → a ≡ cell_answer address s → is_sound a ≡ false → wrong-read a ≡ cell_read s address anchor
+  pub wrong_is : (a : CellAnswer) → a ≡ cell_answer address s → is_sound a ≡ false → wrong_read a ≡ cell_read s address anchor
   unfolding cell_read
   wrong_is a e h =
       let there : is_sound (cell_answer address s) ≡ false = ap is_sound (sym e) ∙ h in
-      rw there (ap wrong-read e)
+      rw there (ap wrong_read e)
 
-  pub read_sound : is_sound (cell_answer address s) ≡ true → cell_read s address anchor ≡ sound-read Sound (size_in s) (pair_read anchor (cell_in s))
+  pub read_sound : is_sound (cell_answer address s) ≡ true → cell_read s address anchor ≡ sound_read Sound (size_in s) (pair_read anchor (cell_in s))
   unfolding cell_read
   read_sound h = rw h
 
@@ -105,7 +105,7 @@ module _ (s address anchor : List ℕ) where
   read_answer = by (is_sound (cell_answer address s)) refl
     where
       by : (b : Bool) → is_sound (cell_answer address s) ≡ b
-          → (cond b (sound-read Sound (size_in s) (pair_read anchor (cell_in s))) (wrong-read (cell_answer address s))).answer ≡ cell_answer address s
+          → (cond b (sound_read Sound (size_in s) (pair_read anchor (cell_in s))) (wrong_read (cell_answer address s))).answer ≡ cell_answer address s
       by true h = sym (is_sound_lem (cell_answer address s) h)
       by false h = refl
 

@@ -1,5 +1,6 @@
 // The shelf: one chunk on it, read against its record.
 #![tactic(auto)]
+
 mod answer;
 mod cell;
 mod judging;

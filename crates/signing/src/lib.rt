@@ -1,5 +1,6 @@
 // Signing: the digest that a batch's owner signs for a chunk's address and its stamp.
 #![tactic(auto)]
+
 mod digest;
 
 pub use digest::{DigestAnswer, StampDigested, stamp_digest};

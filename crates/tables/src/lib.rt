@@ -1,6 +1,7 @@
 // The two tables of the permutation, written out. Each is shown to follow its rule by the contract of the function that hands it
 // out: antt computes the rule over the whole table.
 #![tactic(auto)]
+
 ghost use Rattle.std.specs.Prelude.{◌≡◌};
 ghost use Rattle.tables.specs.Rules.{tab, RC, offsets};
 

@@ -1,5 +1,6 @@
 // The tree over a chunk's data. Every hash takes the prefix before its message: none for a plain tree, the anchor for an anchored one.
 #![tactic(auto)]
+
 ghost use Rattle.std.specs.Prelude.{◌≡◌, ◌-◌, ◌≤◌, length, replicate};
 ghost use Rattle.merkle.specs.Tree.{pad_to, width, root};
 ghost use Rattle.merkle.specs.Zeros.{ZeroRoots};

@@ -57,9 +57,8 @@ impl Line {
     }
 
     // Whether nothing of it has come.
-    pub(crate) fn is_empty(self) -> bool {
-        let field = self.field;
-        match field {
+    pub(crate) fn is_empty(&self) -> bool {
+        match self.field {
             Field::Start => true,
             _ => false,
         }

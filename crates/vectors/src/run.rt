@@ -1,7 +1,9 @@
 // A run over a file: its bytes go, as they come, into the open line, and each line at its end into the tally.
 use crate::line::Line;
 use crate::tally::Tally;
-use libc::STDOUT_FILENO;
+use std::io;
+use std::io::Read;
+use streams::fail;
 
 #[derive(Drop)]
 pub(crate) struct Run {
@@ -9,8 +11,8 @@ pub(crate) struct Run {
     tally: Tally,
     // Whether there may be more to read.
     open: bool,
-    // Whether the last read failed.
-    failed: bool,
+    // Why the last read failed, where it did.
+    failed: Option<io::Error>,
 }
 
 impl Run {
@@ -20,87 +22,92 @@ impl Run {
             line: Line::new(),
             tally: Tally::new(),
             open: true,
-            failed: false,
+            failed: None,
         }
     }
 
     // A proved loop has to end, and nothing says that a file does: the turns count down from a number that no run uses up.
-    pub(crate) fn over(fd: i32, space: &mut [u8]) -> Run {
+    pub(crate) fn over(rt: &impl Print, file: &mut impl Read, space: &mut [u8]) -> io::Result<Run> {
         let mut run = Run::new();
-        let mut turns = u64::MAX;
-        while turns > 0 && run.open {
-            let next = run.read(fd, space);
+        for _ in 0..u64::MAX {
+            if !run.open {
+                break;
+            }
+            let next = run.read(rt, file, space)?;
             run = next;
-            turns -= 1;
         }
-        run
+        Ok(run)
     }
 
     // Reads once. A line that a failure cuts short is not judged.
-    fn read(mut self, fd: i32, space: &mut [u8]) -> Run {
-        let mut bytes = io::buffer();
-        let got = libc::read(fd, &mut bytes);
-        if got > 0 {
-            let n = io::count(got, &bytes);
-            return self.fed(&bytes[..n], space);
+    fn read(mut self, rt: &impl Print, file: &mut impl Read, space: &mut [u8]) -> io::Result<Run> {
+        let mut bytes = [0u8; 4096];
+        match file.read(&mut bytes) {
+            Ok(0) => {
+                self.open = false;
+                self.ended(rt, space)
+            }
+            Ok(n) => self.fed(rt, &bytes[..n], space),
+            Err(error) => {
+                self.open = false;
+                self.failed = Some(error);
+                Ok(self)
+            }
         }
-        self.open = false;
-        if got < 0 {
-            self.failed = true;
-            return self;
-        }
-        self.ended(space)
     }
 
     // The bytes of one read.
-    fn fed(self, bytes: &[u8], space: &mut [u8]) -> Run {
+    fn fed(self, rt: &impl Print, bytes: &[u8], space: &mut [u8]) -> io::Result<Run> {
         let mut run = self;
         for i in 0..bytes.len() {
-            let next = run.step(bytes[i], space);
+            let next = run.step(rt, bytes[i], space)?;
             run = next;
         }
-        run
+        Ok(run)
     }
 
     // One byte of the file.
-    fn step(mut self, b: u8, space: &mut [u8]) -> Run {
+    fn step(mut self, rt: &impl Print, b: u8, space: &mut [u8]) -> io::Result<Run> {
         if b == b'\n' {
-            return self.judged(space);
+            return self.judged(rt, space);
         }
         let line = self.line;
         let longer = line.step(b, space);
         self.line = longer;
-        self
+        Ok(self)
     }
 
     // The line at its end goes into the tally, and the next one is open.
-    fn judged(mut self, space: &mut [u8]) -> Run {
+    fn judged(mut self, rt: &impl Print, space: &mut [u8]) -> io::Result<Run> {
         let line = self.line;
         let tally = self.tally;
-        let counted = tally.with(line.verdict(space));
+        let counted = tally.with(rt, line.verdict(space))?;
         let fresh = Line::new();
         self.tally = counted;
         self.line = fresh;
-        self
+        Ok(self)
     }
 
     // The file at its end, where the last line may lack its own.
-    fn ended(self, space: &mut [u8]) -> Run {
-        let line = self.line;
-        if line.is_empty() {
-            self
+    fn ended(self, rt: &impl Print, space: &mut [u8]) -> io::Result<Run> {
+        if self.line.is_empty() {
+            Ok(self)
         } else {
-            self.judged(space)
+            self.judged(rt, space)
         }
     }
 
     // Says what the file came to.
-    pub(crate) fn report(self, path: &[u8]) {
-        if self.failed {
-            os::fail(path);
-            io::write_all(STDOUT_FILENO, b"The file could not be read to its end\n");
+    pub(crate) fn report(
+        self,
+        rt: &(impl Print + Eprint + AllocGlobal),
+        path: &str,
+    ) -> io::Result<()> {
+        if let Some(error) = self.failed {
+            fail(rt, path, error);
+            rt.write_all(b"The file could not be read to its end\n")?;
         }
         let tally = self.tally;
-        tally.report();
+        tally.report(rt)
     }
 }

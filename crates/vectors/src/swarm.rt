@@ -1,5 +1,5 @@
 // The chunk address that the Swarm client bee publishes in its own tests.
-use libc::STDOUT_FILENO;
+use std::io;
 use verdict::equal::same_digest;
 
 const SPAN: [u8; 8] = [15, 0, 0, 0, 0, 0, 0, 0];
@@ -19,11 +19,11 @@ fn agrees() -> bool {
 }
 
 // One line, as for the hashes.
-pub(crate) fn report() {
-    io::write_all(STDOUT_FILENO, b"Chunk addresses: ");
+pub(crate) fn report(rt: &impl Print) -> io::Result<()> {
+    rt.write_all(b"Chunk addresses: ")?;
     if agrees() {
-        io::write_all(STDOUT_FILENO, b"1 equal, 0 differ\n");
+        rt.write_all(b"1 equal, 0 differ\n")
     } else {
-        io::write_all(STDOUT_FILENO, b"0 equal, 1 differ\n");
+        rt.write_all(b"0 equal, 1 differ\n")
     }
 }

@@ -1,6 +1,6 @@
 // What the lines of a file came to.
 use crate::vector::Verdict;
-use libc::STDOUT_FILENO;
+use std::io;
 use verdict::count::one_more;
 
 // How many lines of a kind are named before the rest are only counted.
@@ -28,23 +28,23 @@ impl Tally {
     }
 
     // One line more, named where it is not as it should be.
-    pub(crate) fn with(mut self, verdict: Verdict) -> Tally {
+    pub(crate) fn with(mut self, rt: &impl Print, verdict: Verdict) -> io::Result<Tally> {
         self.lines = one_more(self.lines);
         match verdict {
-            Verdict::Comment => self,
+            Verdict::Comment => Ok(self),
             Verdict::NotUnderstood => {
-                name(self.not_understood, self.lines, b" is not understood\n");
+                name(rt, self.not_understood, self.lines, b" is not understood\n")?;
                 self.not_understood = one_more(self.not_understood);
-                self
+                Ok(self)
             }
             Verdict::Equal(parts) => {
                 self.equal = one_more(self.equal);
-                self.in_parts(parts)
+                Ok(self.in_parts(parts))
             }
             Verdict::Differs(parts) => {
-                name(self.differ, self.lines, b" differs\n");
+                name(rt, self.differ, self.lines, b" differs\n")?;
                 self.differ = one_more(self.differ);
-                self.in_parts(parts)
+                Ok(self.in_parts(parts))
             }
         }
     }
@@ -58,25 +58,26 @@ impl Tally {
     }
 
     // Three lines, the last of which should begin with 0.
-    pub(crate) fn report(self) {
-        io::write_all(STDOUT_FILENO, b"Keccak-256 vectors: ");
-        say(self.equal, b" equal, ");
-        say(self.differ, b" differ\n");
-        say(self.several, b" lines in several parts\n");
-        say(self.not_understood, b" lines not understood\n");
+    pub(crate) fn report(self, rt: &impl Print) -> io::Result<()> {
+        rt.write_all(b"Keccak-256 vectors: ")?;
+        say(rt, self.equal, b" equal, ")?;
+        say(rt, self.differ, b" differ\n")?;
+        say(rt, self.several, b" lines in several parts\n")?;
+        say(rt, self.not_understood, b" lines not understood\n")
     }
 }
 
 // Names a line, where few of its kind came before it.
-fn name(before: u64, line: u64, what: &[u8]) {
+fn name(rt: &impl Print, before: u64, line: u64, what: &[u8]) -> io::Result<()> {
     if before < FEW {
-        io::write_all(STDOUT_FILENO, b"line ");
-        say(line, what);
+        rt.write_all(b"line ")?;
+        say(rt, line, what)?;
     }
+    Ok(())
 }
 
 // Writes a number and what it counts.
-fn say(n: u64, what: &[u8]) {
-    io::print_decimal(STDOUT_FILENO, n);
-    io::write_all(STDOUT_FILENO, what);
+fn say(rt: &impl Print, n: u64, what: &[u8]) -> io::Result<()> {
+    print!(rt; "{n}")?;
+    rt.write_all(what)
 }

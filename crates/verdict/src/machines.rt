@@ -5,13 +5,14 @@ ghost use Rattle.verdict.specs.Agree.{one_hash, agreed};
 use crate::equal::same_digest;
 
 // What a machine's draw came to: its number, and the hash that was drawn.
-#[derive(Drop)]
+#[derive(Clone, Copy)]
 pub struct Drawn {
     pub number: u32,
     pub hash: [u8; 32],
 }
 
 // Whether the four machines agree: all drew, and all drew the first one's hash.
+#[tactic(auto, unfolding(crate::specs::Agree::agreed))]
 pub fn agree(a: Drawn, b: Drawn, c: Drawn, d: Drawn) -> bool
     ensures { result ≡ agreed a b c d }
 {
@@ -25,6 +26,7 @@ pub fn agree(a: Drawn, b: Drawn, c: Drawn, d: Drawn) -> bool
 }
 
 // Whether two machines drew, and drew one hash.
+#[tactic(auto, unfolding(crate::specs::Agree::one_hash))]
 pub fn one_hash(a: Drawn, b: Drawn) -> bool
     ensures { result ≡ one_hash a b }
 {

@@ -1,5 +1,6 @@
 // Segment proofs checked, plain and anchored.
 #![tactic(auto)]
+
 mod checking;
 
 pub use checking::{ProofChecked, check_anchored_proof, check_proof};

@@ -64,11 +64,11 @@ module _ (s : List ℕ) (i : ℕ) where
 
 module _ (depth : ℕ) (overlay : List ℕ) where
   -- both tests of the records
-  abbrev pub bothHold : List (List ℕ) → Bool
-  bothHold l = rises l && all_stand depth overlay l
+  abbrev pub both_hold : List (List ℕ) → Bool
+  both_hold l = rises l && all_stand depth overlay l
 
   -- the first record with its neighbour, and the others
-  pub both_first : (r : List ℕ) (l : List (List ℕ)) → bothHold (r ∷ l) ≡ (stands depth overlay r && (rises (take 2 (r ∷ l)) && bothHold l))
+  pub both_first : (r : List ℕ) (l : List (List ℕ)) → both_hold (r ∷ l) ≡ (stands depth overlay r && (rises (take 2 (r ∷ l)) && both_hold l))
   unfolding rises all_stand
   both_first r [] = turned (stands depth overlay r)
     where
@@ -114,12 +114,12 @@ module _ (s : List ℕ) (n i : ℕ) where
 
   -- a turn of the pass
   pub turn : (depth : ℕ) (overlay : List ℕ) → i < n
-      → bothHold depth overlay (pieces 145 (n - i) (drop (48 + 145 * i) s))
+      → both_hold depth overlay (pieces 145 (n - i) (drop (48 + 145 * i) s))
       ≡ (stands depth overlay (take 145 (drop (48 + 145 * i) s))
       && (rises (take 2 (pieces 145 (n - i) (drop (48 + 145 * i) s)))
-      && bothHold depth overlay (pieces 145 (n - (i + 1)) (drop (48 + 145 * (i + 1)) s))))
+      && both_hold depth overlay (pieces 145 (n - (i + 1)) (drop (48 + 145 * (i + 1)) s))))
   turn depth overlay h = rw (records_from s n i h) (both_first depth overlay (take 145 (drop (48 + 145 * i) s)) (pieces 145 (n - (i + 1)) (drop (48 + 145 * (i + 1)) s)))
 
-  pub passed : (depth : ℕ) (overlay : List ℕ) → n ≤ i → bothHold depth overlay (pieces 145 (n - i) (drop (48 + 145 * i) s)) ≡ true
+  pub passed : (depth : ℕ) (overlay : List ℕ) → n ≤ i → both_hold depth overlay (pieces 145 (n - i) (drop (48 + 145 * i) s)) ≡ true
   unfolding rises all_stand
   passed depth overlay h = rw (records_none s n i h)

@@ -10,7 +10,7 @@ use Rattle.wellformed.specs.declared.check.BookAnswer.TheVariants.{WellFormed, N
 use Rattle.book.specs.Layout.{capacity_in, count_in, state_in, starting_in, depth_in, overlay_in, records_in}
 use Rattle.wellformed.specs.Check.{labelled, sized, levelled, zeros, well_formed, checked}
 use Rattle.book.proofs.Truths.{fails, joined}
-use Rattle.wellformed.proofs.Tests.{bothHold}
+use Rattle.wellformed.proofs.Tests.{both_hold}
 use Rattle.wellformed.proofs.Tested.{sized_true}
 
 module _ (s : List ℕ) where
@@ -30,7 +30,7 @@ module _ (s : List ℕ) where
   unfolding well_formed
   not_levelled e = refused (fails (labelled s) _ (fails (sized (length s) (capacity_in s) (count_in s)) _ (rw e)))
 
-  pub not_standing : bothHold (depth_in s) (overlay_in s) (records_in s) ≡ false → checked s ≡ NotWellFormed
+  pub not_standing : both_hold (depth_in s) (overlay_in s) (records_in s) ≡ false → checked s ≡ NotWellFormed
   unfolding well_formed
   not_standing e =
       refused
@@ -45,7 +45,7 @@ module _ (s : List ℕ) where
       (fails (labelled s) _
       (fails (sized (length s) (capacity_in s) (count_in s)) _
       (fails (levelled (state_in s) (starting_in s) (depth_in s) (count_in s)) _
-      (fails (bothHold (depth_in s) (overlay_in s) (records_in s)) _ e))))
+      (fails (both_hold (depth_in s) (overlay_in s) (records_in s)) _ e))))
 
   -- a book that has no whole header is of no size
   pub short : length s < 48 → checked s ≡ NotWellFormed
@@ -56,7 +56,7 @@ module _ (s : List ℕ) where
       go false e = e
 
   pub passes : labelled s ≡ true → sized (length s) (capacity_in s) (count_in s) ≡ true → levelled (state_in s) (starting_in s) (depth_in s) (count_in s) ≡ true
-      → bothHold (depth_in s) (overlay_in s) (records_in s) ≡ true → zeros (drop (48 + 145 * count_in s) s) ≡ true → checked s ≡ WellFormed
+      → both_hold (depth_in s) (overlay_in s) (records_in s) ≡ true → zeros (drop (48 + 145 * count_in s) s) ≡ true → checked s ≡ WellFormed
   unfolding well_formed checked
   passes a b c d e = rw (joined a (joined b (joined c (joined d e))))
 

@@ -1,3 +1,4 @@
 // Which bytes are a well-formed book.
 #![tactic(auto)]
+
 pub mod check;

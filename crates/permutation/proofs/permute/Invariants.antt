@@ -1,0 +1,11 @@
+-- `permutation::permute` meets its contract. The loop's invariant: after i turns i rounds are done.
+use mathlib.Core.Path.{◌≡◌}
+use Prim.Native.Nat.{◌≤◌, ◌-◌}
+use Rattle.permutation.specs.Permutation.{rounds}
+use Rattle.permutation.proofs.permute.Given as goal
+
+abbrev pub invariant-loop-i : goal.invariant-loop-i
+invariant-loop-i l = (l.i ≤ 24) × (l.a ≡ rounds l.i l.initial.a)
+
+abbrev pub decreases-loop-i : goal.decreases-loop-i
+decreases-loop-i l = 24 - l.i
