@@ -1,4 +1,3 @@
 -- What each call of addresses answers, on every input.
 pub mod Answer
 pub mod Determined
-pub mod Refused
