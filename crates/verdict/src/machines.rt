@@ -12,7 +12,6 @@ pub struct Drawn {
 }
 
 // Whether the four machines agree: all drew, and all drew the first one's hash.
-#[tactic(auto, unfolding(crate::specs::Agree::agreed))]
 pub fn agree(a: Drawn, b: Drawn, c: Drawn, d: Drawn) -> bool
     ensures { result ≡ agreed a b c d }
 {
@@ -26,7 +25,6 @@ pub fn agree(a: Drawn, b: Drawn, c: Drawn, d: Drawn) -> bool
 }
 
 // Whether two machines drew, and drew one hash.
-#[tactic(auto, unfolding(crate::specs::Agree::one_hash))]
 pub fn one_hash(a: Drawn, b: Drawn) -> bool
     ensures { result ≡ one_hash a b }
 {
