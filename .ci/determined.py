@@ -2,7 +2,7 @@
 
 A term is a word, or a tuple of terms: a function and what it is applied to; x.f is .f applied to x. In a contract the words of two runs
 begin with $: $x and $x now are what a parameter is and what it lends, $1 result and $1 x after now what the first run hands back and
-leaves, $2 the second.
+leaves, $2 the second, $ghost x a ghost member of the trait that states the contract. Where an `impl` says what it is, that stands for it.
 """
 import re
 
@@ -35,7 +35,8 @@ def apart(words, sign):
 def term(words, known):
     """The words as a term, each for what it is known as; ((f x) y) is f x y."""
     if isinstance(words, str):
-        return known.get(words, words)
+        # (T.m is a ghost member of what stands for T)
+        return known.get(words, f'$ghost {words}' if re.fullmatch(r'[A-Z]\w*(?:\.[A-Z]\w*)*\.[a-z_]\w*', words) else words)
     first, *rest = [term(word, known) for word in words] or ['']
     return ((first if isinstance(first, tuple) else (first,)) + tuple(rest)) if rest else first
 
@@ -69,7 +70,8 @@ def seen(t, run):
 def promised(function, uses, run):
     """The equations of a contract, in one of the two runs. Another fact in it is passed over: a theorem without it says more."""
     found = []
-    known = uses | {p: f'${p}' for p in function.parameters} | {'result': '$ result'}
+    ghosts = {name: term(nested(body), uses) if body.strip() else f'$ghost {name}' for name, body in function.ghosts.items()}
+    known = uses | ghosts | {p: f'${p}' for p in function.parameters} | {'result': '$ result'}
     for word, _, text in function.contract:
         if word == 'ensures':
             found += [seen(e, run) for e in equations(nested(text[1:-1]), known) if len(e) == 2]

@@ -20,10 +20,12 @@ def line_at(text, place):
 # ---- Rattle
 
 class Item:
-    """A function, type, constant or module of a crate. Its path is modules, then the type of an `impl`, then its name."""
+    """A function, type, constant or module of a crate. Its path is modules, then the trait or the type of an `impl`, then its name."""
 
-    def __init__(self, crate, file, line, kind, path, public=False, exported=False, method=False, signature='', contract=(), body='', end=0):
+    def __init__(self, crate, file, line, kind, path, public=False, exported=False, method=False, signature='', contract=(), body='', end=0, block=None):
         self.crate, self.file, self.line, self.kind, self.path = crate, file, line, kind, path
+        # Of a method: the trait that declares it or that its `impl` is of, and what is said there of the trait's ghost members.
+        self.trait, self.ghosts, self.declares = (block.trait, block.ghosts, block.kind == 'trait') if block else ('', {}, False)
         self.public, self.exported, self.method, self.contract = public, exported, method, contract
         self.body, self.end = body, end
         self.parameters = re.findall(r'\bself\b|\b\w+(?=\s*:(?!:))', signature)
@@ -31,6 +33,8 @@ class Item:
         self.hands_back = '->' in signature
         self.streams = re.search(r'\bimpl \(?(?:Read|Write|Print|Eprint)\b', signature) is not None
         self.name = '::'.join((crate,) + path)
+        # as `rattle` names it
+        self.called = '::'.join((crate, *path[:-2], path[-2][:1].upper() + path[-2][1:] + self.trait, path[-1])) if self.trait and not self.declares else self.name
 
     def answers(self, mention):
         """A mention leaves modules out at will, but never the type of a method."""
@@ -38,8 +42,19 @@ class Item:
         return crate == self.crate and list(self.path[-len(tail):]) == tail and len(tail) >= (2 if self.method else 1)
 
 
+class Block:
+    """A trait, an `impl` or a module with its items, by the name that these have it under; or any other braces."""
+
+    def __init__(self, kind='', public=False, head='', inside=''):
+        self.kind, self.public = kind, public
+        first, _, of = head.partition(' for ')
+        self.name = re.match(r'\w*', (of or first).strip()).group() or {'(': 'unit', '[': 'array'}.get(of.strip()[:1], '')
+        self.trait = re.match(r'\w*', first.strip()).group() if kind == 'trait' or kind == 'impl' and of else ''
+        self.ghosts = {name: body or '' for name, body in re.findall(r'\bghost\s+(\w+)\s*(?::|=\s*\{([^{}]*)\})', inside)} if self.trait else {}
+
+
 TOKEN = re.compile(
-    r'\b(?P<block>impl|mod)\s+(?P<owner>\w+)[^{};]*\{'
+    r'(?P<shown>\bpub\s+)?\b(?P<block>impl|mod|trait)\b(?:\s*<(?:[^<>{}]|<[^<>{}]*>)*>)?\s+(?P<head>(?:[^{};\[\]]|\[[^\]]*\])*)\{'
     r'|(?P<pub>\bpub\s+)?(?P<extern>\bextern\s+)?\bfn\s+(?P<fn>\w+)'
     r'|\b(?P<kind>struct|enum|const|type|mod)\s+(?P<item>\w+)'
     r'|[{}]')
@@ -61,9 +76,13 @@ def closing(text, at):
 
 
 def contract_after(text, at):
-    """What follows a function's name up to its clauses, these as (word, line, text), and where its body begins. A starred clause keeps its star."""
+    """What follows a function's name up to its clauses, these as (word, line, text), and where its body begins, or a line ends that stands for
+    none. A starred clause keeps its star."""
     signature, clauses = '', []
     while (brace := text.find('{', at)) >= 0:
+        ends = blanked(r'\[(?:[^\[\]]|\[(?:[^\[\]]|\[[^\[\]]*\])*\])*\]', text[at:brace]).find(';')
+        if ends >= 0:
+            return signature or text[at:at + ends], clauses, at + ends
         word = re.search(r'\b(?:requires|ensures)\b\*?', text[at:brace])
         signature = signature or text[at:at + word.start() if word else brace]
         if not word:
@@ -82,20 +101,20 @@ def items(crate, file, text):
     owners, at, found = [], 0, []
     while m := TOKEN.search(text, at):
         at = m.end()
-        path = modules + tuple(name for _, name in owners if name)
+        path = modules + tuple(block.name for block in owners if block.name)
         line = line_at(text, m.start())
         if m['block']:
-            owners.append((m['block'], m['owner']))
+            owners.append(Block(m['block'], bool(m['shown']), m['head'], text[at:closing(text, at - 1)]))
         elif m['fn']:
             signature, contract, at = contract_after(text, at)
-            method = any(kind == 'impl' for kind, _ in owners)
-            public, exported = bool(m['pub']), bool(m['pub'] and m['extern'])
-            end = closing(text, at)
-            found.append(Item(crate, file, line, 'fn', path + (m['fn'],), public, exported, method, signature, contract, text[at:end], line_at(text, end)))
+            block = next((block for block in reversed(owners) if block.kind in ('impl', 'trait')), None)
+            public, exported = bool(m['pub'] or block and block.kind == 'trait' and block.public), bool(m['pub'] and m['extern'])
+            end = closing(text, at) if text[at] == '{' else at
+            found.append(Item(crate, file, line, 'fn', path + (m['fn'],), public, exported, bool(block), signature, contract, text[at:end], line_at(text, end), block))
         elif m['item']:
             found.append(Item(crate, file, line, m['kind'], path + (m['item'],)))
         elif m.group() == '{':
-            owners.append(('', ''))
+            owners.append(Block())
         elif owners:
             owners.pop()
     return found
@@ -208,6 +227,11 @@ class Repository:
         sources = [(c, f) for c in self.crates for f in self.files('.rt') if f.startswith(f'crates/{c}/src/')]
         self.items = [item for crate, file in sources for item in items(crate, file, self.text(file))]
         self.functions = [i for i in self.items if i.kind == 'fn' and i.public]
+        # A method of an `impl` keeps the contract of its trait, where that is one of these crates'.
+        told = {(i.trait, i.path[-1]): i for i in self.functions if i.declares}
+        self.inherited = [i for i in self.items if i.kind == 'fn' and i.trait and not i.declares and (i.trait, i.path[-1]) in told]
+        for i in self.inherited:
+            i.contract = told[i.trait, i.path[-1]].contract
 
     def fault(self, file, line, what):
         self.faults.append((file, line, what))

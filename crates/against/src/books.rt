@@ -1,58 +1,50 @@
-// Calls 14 to 17: books opened, checked and offered to, and the choice between two records.
-use crate::case::{field, lent_end};
-use moving::{put, write32};
-use octets::number::read64;
+// Calls 14 to 18: books opened, checked, offered to and drawn from, and the choice between two records.
+use crate::laid::{answered, lent};
+use moving::{put, write};
+use octets::number::read;
 
-// Lays in `came` what the call hands back, and says how many bytes that is.
-pub(crate) fn made(call: u8, rest: &[u8], came: &mut [u8]) -> usize {
-    match call {
-        14 => open(rest, came),
-        15 => check_book(rest, came),
-        16 => higher(rest, came),
-        _ => offer(rest, came),
-    }
+pub(crate) fn open(fields: &[&[u8]], came: &mut [u8]) -> Option<usize> {
+    let [book, overlay, capacity, starting] = fields else {
+        return None;
+    };
+    let copy = lent(book, came, 4)?;
+    let answer = opening::open::open(copy, overlay, read(capacity, 0), read(starting, 0));
+    Some(answered(&answer, came) + book.len())
 }
 
-fn open(rest: &[u8], came: &mut [u8]) -> usize {
-    let book = field(rest, 0);
-    let capacity = read64(field(rest, 2), 0);
-    let starting = read64(field(rest, 3), 0);
-    let end = lent_end(came.len(), 4, book.len());
-    if end < 4 {
-        return 0;
-    }
-    put(came, 4, book);
-    let answer = opening::open::open(&mut came[4..end], field(rest, 1), capacity, starting);
-    write32(came, 0, answer.number());
-    end
+pub(crate) fn check_book(fields: &[&[u8]], came: &mut [u8]) -> Option<usize> {
+    let [book] = fields else {
+        return None;
+    };
+    Some(answered(&wellformed::check::check_book(book), came))
 }
 
-fn check_book(rest: &[u8], came: &mut [u8]) -> usize {
-    let answer = wellformed::check::check_book(field(rest, 0));
-    write32(came, 0, answer.number());
-    4
-}
-
-fn higher(rest: &[u8], came: &mut [u8]) -> usize {
-    let part = records::rank::higher(field(rest, 0), field(rest, 1));
+pub(crate) fn higher(fields: &[&[u8]], came: &mut [u8]) -> Option<usize> {
+    let [first, second] = fields else {
+        return None;
+    };
+    let part = records::rank::higher(first, second);
     put(came, 0, part);
-    lent_end(came.len(), 0, part.len())
+    Some(part.len())
 }
 
-fn offer(rest: &[u8], came: &mut [u8]) -> usize {
-    let book = field(rest, 0);
-    let end = lent_end(came.len(), 4, book.len());
-    if end < 4 {
-        return 0;
-    }
-    put(came, 4, book);
-    let answer = reserve::offer::offer(
-        &mut came[4..end],
-        field(rest, 1),
-        field(rest, 2),
-        field(rest, 3),
-        field(rest, 4),
-    );
-    write32(came, 0, answer.number());
-    end
+pub(crate) fn offer(fields: &[&[u8]], came: &mut [u8]) -> Option<usize> {
+    let [book, batches, address, stamp, account] = fields else {
+        return None;
+    };
+    let copy = lent(book, came, 4)?;
+    let answer = reserve::offer::offer(copy, batches, address, stamp, account);
+    Some(answered(&answer, came) + book.len())
+}
+
+// Answer, place, commitment and sample.
+pub(crate) fn draw(fields: &[&[u8]], came: &mut [u8]) -> Option<usize> {
+    let [book, shelf, anchor, sample] = fields else {
+        return None;
+    };
+    let drawn = draw::draw(book, shelf, anchor, lent(sample, came, 40)?);
+    answered(&drawn, came);
+    write(came, 4, draw::place(&drawn));
+    put(came, 8, &drawn.unwrap_or([0u8; 32]));
+    Some(40 + sample.len())
 }

@@ -1,71 +1,53 @@
 // Calls 5 to 10: addresses, segments, and segment proofs.
-use crate::case::{field, lent_end};
-use chunk::Addressed;
-use moving::{put, write32, write64};
-use octets::number::read64;
+use crate::laid::{answered, digested, lent};
+use moving::{put, write};
+use octets::number::read;
 
-// Lays in `came` what the call hands back, and says how many bytes that is.
-pub(crate) fn made(call: u8, rest: &[u8], came: &mut [u8]) -> usize {
-    match call {
-        5 => address(rest, came),
-        6 => anchored_address(rest, came),
-        7 => segment_count(rest, came),
-        8 => segment(rest, came),
-        9 => make_proof(rest, came),
-        _ => check_proof(rest, came),
-    }
+pub(crate) fn address(fields: &[&[u8]], came: &mut [u8]) -> Option<usize> {
+    let [span, data] = fields else {
+        return None;
+    };
+    Some(digested(chunk::address(span, data), came))
 }
 
-fn laid(found: Addressed, came: &mut [u8]) -> usize {
-    let answer = found.answer;
-    let digest = found.digest;
-    write32(came, 0, answer.number());
-    put(came, 4, &digest);
-    36
+pub(crate) fn anchored_address(fields: &[&[u8]], came: &mut [u8]) -> Option<usize> {
+    let [anchor, span, data] = fields else {
+        return None;
+    };
+    Some(digested(chunk::anchored_address(anchor, span, data), came))
 }
 
-fn address(rest: &[u8], came: &mut [u8]) -> usize {
-    laid(chunk::address(field(rest, 0), field(rest, 1)), came)
+pub(crate) fn segment_count(fields: &[&[u8]], came: &mut [u8]) -> Option<usize> {
+    let [data] = fields else {
+        return None;
+    };
+    write(came, 0, segments::segment_count(data) as u64);
+    Some(8)
 }
 
-fn anchored_address(rest: &[u8], came: &mut [u8]) -> usize {
-    let anchor = field(rest, 0);
-    laid(
-        chunk::anchored_address(anchor, field(rest, 1), field(rest, 2)),
-        came,
-    )
-}
-
-fn segment_count(rest: &[u8], came: &mut [u8]) -> usize {
-    write64(came, 0, segments::segment_count(field(rest, 0)) as u64);
-    8
-}
-
-fn segment(rest: &[u8], came: &mut [u8]) -> usize {
-    let whole = field(rest, 0);
-    let index = read64(field(rest, 1), 0);
-    let part = segments::segment(whole, index);
-    write64(came, 0, segments::segment_start(whole, index) as u64);
+pub(crate) fn segment(fields: &[&[u8]], came: &mut [u8]) -> Option<usize> {
+    let [data, index] = fields else {
+        return None;
+    };
+    let index = read(index, 0);
+    let part = segments::segment(data, index);
+    write(came, 0, segments::segment_start(data, index) as u64);
     put(came, 8, part);
-    lent_end(came.len(), 8, part.len())
+    Some(8 + part.len())
 }
 
-fn make_proof(rest: &[u8], came: &mut [u8]) -> usize {
-    let index = read64(field(rest, 2), 0);
-    let proof = field(rest, 3);
-    let end = lent_end(came.len(), 4, proof.len());
-    if end < 4 {
-        return 0;
-    }
-    put(came, 4, proof);
-    let answer = proving::make_proof(field(rest, 0), field(rest, 1), index, &mut came[4..end]);
-    write32(came, 0, answer.number());
-    end
+pub(crate) fn make_proof(fields: &[&[u8]], came: &mut [u8]) -> Option<usize> {
+    let [span, data, index, proof] = fields else {
+        return None;
+    };
+    let answer = proving::make_proof(span, data, read(index, 0), lent(proof, came, 4)?);
+    Some(answered(&answer, came) + proof.len())
 }
 
-fn check_proof(rest: &[u8], came: &mut [u8]) -> usize {
-    let index = read64(field(rest, 1), 0);
-    let answer = verifying::check_proof(field(rest, 0), index, field(rest, 2));
-    write32(came, 0, answer.number());
-    4
+pub(crate) fn check_proof(fields: &[&[u8]], came: &mut [u8]) -> Option<usize> {
+    let [address, index, proof] = fields else {
+        return None;
+    };
+    let answer = verifying::check_proof(address, read(index, 0), proof);
+    Some(answered(&answer, came))
 }

@@ -4,8 +4,8 @@
 mod books;
 mod case;
 mod chunks;
-mod draws;
 mod hashes;
+mod laid;
 mod run;
 mod stamps;
 mod tally;
@@ -24,12 +24,12 @@ fn main(rt: HostRuntime) -> io::Result<()> {
         Ok(file) => file,
         Err(error) => {
             fail(&rt, path, error);
-            return rt.write_all(b"No case was run, since cases.bin cannot be opened\n");
+            return println!(rt; "No case was run, since {path} cannot be opened");
         }
     };
     run::over(&rt, &mut file, &mut space, &mut came)?.report(&rt)?;
     if run::goes_on(&mut file) {
-        rt.write_all(b"The file goes on behind its last case\n")?;
+        println!(rt; "The file goes on behind its last case")?;
     }
     Ok(())
 }

@@ -8,9 +8,11 @@ use lib.ListN.{length}
 use Rattle.merkle.specs.Tree.{address_of}
 use Rattle.records.specs.Record.{address_in}
 use Rattle.book.specs.Layout.{records_in}
-use Rattle.draw.specs.declared.answer.DrawAnswer.{DrawAnswer}
-use Rattle.draw.specs.declared.answer.DrawAnswer.TheVariants.{Done, NotWellFormed, Overfull, WrongLength, ShelfEnds, TooLong, Mismatch, Left, TooFew}
-use Rattle.draw.specs.Answer.{draw_number}
+use Rattle.std.specs.Prelude.{Result, Ok, Err}
+use Rattle.answers.specs.Number.{digest_or_zeros}
+use Rattle.draw.specs.declared.answer.DrawError.{DrawError}
+use Rattle.draw.specs.declared.answer.DrawError.TheVariants.{NotWellFormed, Overfull, WrongLength, ShelfEnds, TooLong, Mismatch, Left, TooFew}
+use Rattle.draw.specs.Answer.{Done, error_number, draw_number, and_then}
 use Rattle.shelf.specs.Cell.{own_address, pair_of}
 use Rattle.sample.specs.Sample.{written, sample_span, commitment_of}
 use Rattle.draw.specs.Draw.{cells_drawn, pairs_drawn, sixteen_drawn, draw_answer, drawn, sample_after}
@@ -20,20 +22,23 @@ use Rattle.draw.proofs.Theorems as draws
 use Rattle.agreement.specs.Theorems.{GotHash, OfRecord, Sampled}
 
 -- 0 is the number of no other answer
-zero_done : (a : DrawAnswer) → draw_number a ≡ 0 → a ≡ Done
-zero_done Done e = refl
-zero_done NotWellFormed e = absurd (omega (arith, e))
-zero_done Overfull e = absurd (omega (arith, e))
-zero_done WrongLength e = absurd (omega (arith, e))
-zero_done (ShelfEnds place) e = absurd (omega (arith, e))
-zero_done (TooLong place) e = absurd (omega (arith, e))
-zero_done (Mismatch place) e = absurd (omega (arith, e))
-zero_done Left e = absurd (omega (arith, e))
-zero_done TooFew e = absurd (omega (arith, e))
+zero_error : {A : Type 0} (error : DrawError) → error_number error ≡ 0 → A
+zero_error NotWellFormed e = absurd (omega (arith, e))
+zero_error Overfull e = absurd (omega (arith, e))
+zero_error WrongLength e = absurd (omega (arith, e))
+zero_error (ShelfEnds place) e = absurd (omega (arith, e))
+zero_error (TooLong place) e = absurd (omega (arith, e))
+zero_error (Mismatch place) e = absurd (omega (arith, e))
+zero_error Left e = absurd (omega (arith, e))
+zero_error TooFew e = absurd (omega (arith, e))
+
+zero_done : (a : Result (Unit {0}) DrawError) (hash : List ℕ) → draw_number (and_then a (Ok hash)) ≡ 0 → a ≡ Done
+zero_done (Ok value) hash e = refl
+zero_done (Err error) hash e = zero_error error e
 
 pub got_drawn : (book shelf anchor sample : List ℕ) → GotHash book shelf anchor sample → draw_answer book shelf anchor sample ≡ Done
 unfolding drawn
-got_drawn book shelf anchor sample = zero_done (draw_answer book shelf anchor sample)
+got_drawn book shelf anchor sample = zero_done (draw_answer book shelf anchor sample) (commitment_of (sixteen_drawn book shelf anchor))
 
 -- ---- the sample
 
@@ -55,10 +60,10 @@ module _ (book shelf anchor sample : List ℕ) (e : draw_answer book shelf ancho
   bytes : sample_after book shelf anchor sample ≡ written chosen
   bytes = drawn_sample book shelf anchor sample e
 
-  committed : (drawn book shelf anchor sample).commitment ≡ commitment_of chosen
+  committed : digest_or_zeros (drawn book shelf anchor sample) ≡ commitment_of chosen
   committed = drawn_commitment book shelf anchor sample e
 
-  pub sampled : Sampled book shelf anchor (sample_after book shelf anchor sample) (drawn book shelf anchor sample).commitment
+  pub sampled : Sampled book shelf anchor (sample_after book shelf anchor sample) (digest_or_zeros (drawn book shelf anchor sample))
   unfolding commitment_of
   sampled =
       let small = draws.the_sixteen_smallest book shelf anchor sample e in

@@ -12,7 +12,7 @@ use Rattle.octets.proofs.Bytes.{bytes_append}
 use Rattle.nearness.specs.Bits.{bits, bits_of, leading_equal, shared_bits}
 use Rattle.postage.specs.Stamp.{slots_of}
 use Rattle.batches.specs.Batch.{records, fit, below, ordered, well_listed, find}
-use Rattle.postage.specs.Rules.{in_bucket, in_slots, is_owner, rules, checked}
+use Rattle.postage.specs.Rules.{in_bucket, in_slots, is_owner, rules, judged, checked}
 use Rattle.settling.specs.Rank.{higher}
 use Rattle.settling.specs.Book.{enter, inside, settle, offer}
 use Rattle.settling.specs.Answer.{holder, taken, against, outcome}
@@ -33,7 +33,7 @@ computed :
     (answers (opened overlay 16 0) these ≡ 0 ∷ 22 ∷ 19 ∷ [])
     × (answers (opened overlay 16 0) those ≡ 19 ∷ 0 ∷ 0 ∷ 22 ∷ [])
     × (heard batches (opened overlay 16 0) these ≡ late_alone)
-unfolding answers heard overlay batches address stamp_at offer_by big big_at bytes_of byte_order bits bits_of leading_equal shared_bits slots_of pieces records fit below ordered well_listed find in_bucket in_slots is_owner rules checked higher enter inside settle offer holder taken against outcome near_of rank_order beats stamp_answer laid read write labelled sized levelled stands all_stand rises zeros well_formed entered offered
+unfolding answers heard overlay batches address stamp_at offer_by big big_at bytes_of byte_order bits bits_of leading_equal shared_bits slots_of pieces records fit below ordered well_listed find in_bucket in_slots is_owner rules judged checked higher enter inside settle offer holder taken against outcome near_of rank_order beats stamp_answer laid read write labelled sized levelled stands all_stand rises zeros well_formed entered offered
 computed = (refl, refl, refl)
 
 -- ---- lent as bytes

@@ -9,29 +9,30 @@ use lib.ListN.{length}
 use borrow.Author.Tests.{eqb-true, le-leb}
 use Rattle.octets.specs.Bytes.{Bytes}
 use Rattle.settling.specs.Meaning.{Each}
-use Rattle.opening.specs.declared.open.OpenAnswer.{OpenAnswer}
-use Rattle.opening.specs.declared.open.OpenAnswer.TheVariants.{Done, OutOfRange, WrongLength}
+use Rattle.std.specs.Prelude.{Result, Ok, Err}
+use Rattle.opening.specs.declared.open.OpenError.{OpenError}
+use Rattle.opening.specs.declared.open.OpenError.TheVariants.{OutOfRange, WrongLength}
 use Rattle.opening.specs.Open.{in_range, fresh_book, left, open_answer, open_bytes, open_number}
 use Rattle.histories.specs.Histories.{Openable, opened}
 use Rattle.opening.proofs.Opening.{in_range_lem, opens}
 
 -- 0 is the number of no other answer
-done : (a : OpenAnswer) → open_number a ≡ 0 → a ≡ Done
-done Done e = refl
-done OutOfRange e = absurd (omega (arith, e))
-done WrongLength e = absurd (omega (arith, e))
+done : (a : Result (Unit {0}) OpenError) → open_number a ≡ 0 → a ≡ Ok tt
+done (Ok value) e = refl
+done (Err OutOfRange) e = absurd (omega (arith, e))
+done (Err WrongLength) e = absurd (omega (arith, e))
 
 module _ (buffer overlay : List ℕ) (capacity starting : ℕ) (z : open_number (open_answer buffer overlay capacity starting) ≡ 0) where
   pub fresh_bytes : open_bytes buffer overlay capacity starting ≡ opened overlay capacity starting
   unfolding open_bytes
-  fresh_bytes = ap (λ (a : OpenAnswer). left a (fresh_book overlay capacity starting) buffer) (done (open_answer buffer overlay capacity starting) z)
+  fresh_bytes = ap (λ (a : Result (Unit {0}) OpenError). left a (fresh_book overlay capacity starting) buffer) (done (open_answer buffer overlay capacity starting) z)
 
   pub fresh_openable : Bytes overlay → Openable overlay capacity starting
   unfolding open_answer
   fresh_openable byte = by (in_range capacity starting) (eqb (length overlay) 32) (eqb (length buffer) (48 + 145 * capacity)) refl refl z
     where
       by : (r o b : Bool) → in_range capacity starting ≡ r → eqb (length overlay) 32 ≡ o
-          → open_number (cond r (cond (o && b) Done WrongLength) OutOfRange) ≡ 0 → Openable overlay capacity starting
+          → open_number (cond r (cond (o && b) (Ok (tt {0})) (Err WrongLength)) (Err OutOfRange)) ≡ 0 → Openable overlay capacity starting
       by true true b h k e =
           let bounds = in_range_lem capacity starting h in
           record { size = eqb-true _ _ k; bytes = byte; least = bounds.0; most = bounds.1; depth = bounds.2 }

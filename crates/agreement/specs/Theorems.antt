@@ -2,6 +2,7 @@
 -- proves each under the same name in small letters.
 use Rattle.std.specs.Prelude.{◌≡◌, ◌⊎◌, ℕ, ◌+◌, ◌*◌, ◌≤◌, length}
 use mathlib.Core.List.{List, [], ◌++◌, map, Memᴰ}
+use Rattle.answers.specs.Number.{digest_or_zeros}
 use Rattle.octets.specs.Bytes.{Bytes}
 use Rattle.keccak.specs.Collision.{Collision}
 use Rattle.merkle.specs.Tree.{address_of}
@@ -53,7 +54,7 @@ OrderAndRepeats = (s t : List Offer) → SameOffers (s ++ t) (t ++ (s ++ t))
 
 -- a draw got a hash: it answered 0
 abbrev pub GotHash : (book shelf anchor sample : List ℕ) → Type 0
-GotHash book shelf anchor sample = draw_number (drawn book shelf anchor sample).answer ≡ 0
+GotHash book shelf anchor sample = draw_number (drawn book shelf anchor sample) ≡ 0
 
 -- "If both then draw with one anchor and both get a hash, the hashes are equal, or two different messages with one digest are exhibited
 -- among those hashed": those that the two draws hashed. The shelves may be any two.
@@ -62,7 +63,7 @@ SameOffersSameHash =
     (overlay : List ℕ) (capacity starting : ℕ) (batches : List ℕ) (s t : List Offer) (book book' : List ℕ) → Bytes overlay → Each ByteOffer s
     → Became overlay capacity starting batches s book → Became overlay capacity starting batches t book' → SameOffers s t
     → (shelf shelf' anchor sample sample' : List ℕ) → GotHash book shelf anchor sample → GotHash book' shelf' anchor sample'
-    → ((drawn book shelf anchor sample).commitment ≡ (drawn book' shelf' anchor sample').commitment)
+    → (digest_or_zeros (drawn book shelf anchor sample) ≡ digest_or_zeros (drawn book' shelf' anchor sample'))
     ⊎ Collision (draw_hashed book shelf anchor ++ draw_hashed book' shelf' anchor)
 
 -- "Any two equal drawn hashes stand for the same sixteen pairs in the same order, or such messages are exhibited": any books, shelves and
@@ -70,7 +71,7 @@ SameOffersSameHash =
 abbrev pub SameHashSamePairs : Type 0
 SameHashSamePairs =
     (book shelf anchor sample book' shelf' anchor' sample' : List ℕ) → GotHash book shelf anchor sample → GotHash book' shelf' anchor' sample'
-    → (drawn book shelf anchor sample).commitment ≡ (drawn book' shelf' anchor' sample').commitment
+    → digest_or_zeros (drawn book shelf anchor sample) ≡ digest_or_zeros (drawn book' shelf' anchor' sample')
     → ((sixteen_drawn book shelf anchor ≡ sixteen_drawn book' shelf' anchor') × (sample_after book shelf anchor sample ≡ sample_after book' shelf' anchor' sample'))
     ⊎ Collision (draw_hashed book shelf anchor ++ draw_hashed book' shelf' anchor')
 
@@ -102,7 +103,7 @@ pub record Sampled (book shelf anchor left hash : List ℕ) : Type 0 where
 abbrev pub TheSample : Type 0
 TheSample =
     (book shelf anchor sample : List ℕ) → GotHash book shelf anchor sample
-    → Sampled book shelf anchor (sample_after book shelf anchor sample) (drawn book shelf anchor sample).commitment
+    → Sampled book shelf anchor (sample_after book shelf anchor sample) (digest_or_zeros (drawn book shelf anchor sample))
 
 -- ---- together
 

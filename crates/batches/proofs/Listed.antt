@@ -1,18 +1,20 @@
 -- The test of a list agrees with the sentence.
-use mathlib.Core.Path.{◌≡◌, refl, ap, ◌∙◌}
+use mathlib.Core.Path.{◌≡◌, refl, sym, ap, ◌∙◌}
 use mathlib.Core.Bool.{Bool, true, false, ◌&&◌, false≢true}
 use mathlib.Core.List.{List, [], ◌∷◌}
-use Prim.Native.Nat.{ℕ, zero, suc, ◌+◌, ◌%◌, ◌≤◌, ◌<◌}
+use Prim.Native.Nat.{ℕ, zero, suc, ◌+◌, ◌%◌, ◌<◌}
+use native.Mathlib.Nat.{suc-add}
 use native.Mathlib.Omega.{arith}
 use lib.Dec.{eqb, leb}
-use lib.ListN.{length, get_or, drop, length-drop}
-use lib.Seq.{drop-drop}
-use borrow.Author.Tests.{le-leb, leb-true, eq-eqb, eqb-true}
-use Rattle.octets.specs.declared.order.Order.TheVariants.{Less}
-use Rattle.octets.specs.Order.{byte_order, is_less}
+use lib.ListN.{length, get_or}
+use borrow.Author.Tests.{le-leb, leb-true, eq-eqb, ne_eqb, eqb-true}
+use Rattle.std.specs.declared.cmp.Ordering.TheVariants.{Less}
+use Rattle.std.specs.Ordering.{is_lt}
+use Rattle.std.specs.List.{list_all, IsAllAdjacentAnswer}
+use Rattle.octets.specs.Order.{byte_order}
 use Rattle.octets.proofs.Ordered.{is_less_lem, less_trans}
-use Rattle.batches.specs.Batch.{record_length, record_from, id_of, depth_of, Fit, WellListed, records, fit, below, ordered, well_listed}
-use Rattle.batches.proofs.Records.{records_short, records_more, length_records, records_at}
+use Rattle.batches.specs.Batch.{record_length, id_of, depth_of, Fit, WellListed, records, fit, precedes, below, ordered, well_listed}
+use Rattle.batches.proofs.Records.{length_records, records_at}
 
 -- tests
 
@@ -71,7 +73,7 @@ ordered_sound (batch ∷ rest) e =
 below_first : (batch : List ℕ) (rest : List (List ℕ)) → Sound (batch ∷ rest) → below batch rest ≡ true
 unfolding below
 below_first batch [] s = refl
-below_first batch (next ∷ rest) s = ap is_less (s.ascending 0 1 (omega arith) (omega arith))
+below_first batch (next ∷ rest) s = ap is_lt (s.ascending 0 1 (omega arith) (omega arith))
 
 pub ordered_complete : (batches : List (List ℕ)) → Sound batches → ordered batches ≡ true
 unfolding ordered
@@ -80,56 +82,64 @@ ordered_complete (batch ∷ rest) s =
     let others : Sound rest = record { all_fit = λ i h. s.all_fit (suc i) (omega arith); ascending = λ i j h k. s.ascending (suc i) (suc j) (omega arith) (omega arith) } in
     rw (fit_complete batch (s.all_fit 0 (omega arith)), below_first batch rest s, ordered_complete rest others)
 
--- ---- the records from `at` on
+-- ---- what the check's two walks come to
 
-module _ (s : List ℕ) (at : ℕ) where
-  pub below_none : (batch : List ℕ) → length s < at + record_length → below batch (records (drop at s)) ≡ true
-  unfolding below
-  below_none batch h = rw (records_short (drop at s) (rw (length-drop at s) (omega arith)))
+ascending : List (List ℕ) → Bool
+ascending [] = true
+ascending (batch ∷ rest) = below batch rest && ascending rest
 
-  pub below_next : (batch : List ℕ) → at + record_length ≤ length s → below batch (records (drop at s)) ≡ is_less (byte_order (id_of batch) (id_of (record_from s at)))
-  unfolding below
-  below_next batch h = rw (records_more (drop at s) (rw (length-drop at s) (omega arith)))
-
-  pub ordered_none : length s < at + record_length → ordered (records (drop at s)) ≡ true
-  unfolding ordered
-  ordered_none h = rw (records_short (drop at s) (rw (length-drop at s) (omega arith)))
-
-  -- the first of them, and the others
-  pub ordered_next : at + record_length ≤ length s
-      → ordered (records (drop at s)) ≡ fit (record_from s at) && (below (record_from s at) (records (drop (at + record_length) s)) && ordered (records (drop (at + record_length) s)))
-  unfolding ordered
-  ordered_next h = rw (records_more (drop at s) (rw (length-drop at s) (omega arith)), drop-drop record_length at s)
-
--- ---- the list
-
-pub not_ordered : (list : List ℕ) → ordered (records list) ≡ false → well_listed list ≡ false
-unfolding well_listed
-not_ordered list e = rw e (go (eqb (length list % record_length) 0))
+all_and : (batches : List (List ℕ)) → (list_all fit batches && ascending batches) ≡ ordered batches
+unfolding ordered ascending
+all_and [] = refl
+all_and (batch ∷ rest) = rw (← all_and rest) (go (fit batch) (list_all fit rest) (below batch rest) (ascending rest))
   where
-    go : (b : Bool) → (b && false) ≡ false
-    go true = refl
-    go false = refl
+    go : (f g b a : Bool) → ((f && g) && (b && a)) ≡ (f && (b && (g && a)))
+    go false g b a = refl
+    go true true b a = refl
+    go true false true a = refl
+    go true false false a = refl
 
-pub all_ordered : (list : List ℕ) → length list % record_length ≡ 0 → ordered (records list) ≡ true → well_listed list ≡ true
+walked : (batches : List (List ℕ)) (r : Bool) → IsAllAdjacentAnswer (λ x y b. b ≡ precedes x y) batches r → r ≡ ascending batches
+unfolding ascending below
+walked [] true h = refl
+walked [] false h = go h.0 h.1
+  where
+    go : (k : ℕ) → k + 1 < 0 → false ≡ true
+    go k i = absurd (omega arith)
+walked (batch ∷ []) true h = refl
+walked (batch ∷ []) false h = go h.0 h.1
+  where
+    go : (k : ℕ) → k + 1 < 1 → false ≡ true
+    go k i = absurd (omega arith)
+walked (batch ∷ next ∷ rest) true h =
+    let here : true ≡ precedes batch next = h 0 [] (omega arith) in
+    let after : true ≡ ascending (next ∷ rest) = walked (next ∷ rest) true (λ k d i. rw suc-add at (h (suc k) d (omega arith))) in
+    rw (← here) after
+walked (batch ∷ next ∷ rest) false h = go (precedes batch next) refl h.0 h.1 h.2 (walked (next ∷ rest) false)
+  where
+    go : (b : Bool) → precedes batch next ≡ b → (k : ℕ) → k + 1 < length (batch ∷ next ∷ rest)
+        → ((d : List ℕ) → false ≡ precedes (get_or (batch ∷ next ∷ rest) k d) (get_or (batch ∷ next ∷ rest) (k + 1) d))
+        → (IsAllAdjacentAnswer (λ x y b. b ≡ precedes x y) (next ∷ rest) false → false ≡ ascending (next ∷ rest))
+        → false ≡ (precedes batch next && ascending (next ∷ rest))
+    go b e zero i f r = rw (← f [])
+    go false e (suc k) i f r = rw e
+    go true e (suc k) i f r = rw e (r (k, omega arith, λ d. rw suc-add at (f d)))
+
+pub two_walks : (batches : List (List ℕ)) (r : Bool) → IsAllAdjacentAnswer (λ x y b. b ≡ precedes x y) batches r → (list_all fit batches && r) ≡ ordered batches
+two_walks batches r h = rw (walked batches r h) (all_and batches)
+
+-- one record that is not fit is enough
+pub one_unfit : (batches : List (List ℕ)) → list_all fit batches ≡ false → ordered batches ≡ false
+one_unfit batches h = sym (all_and batches) ∙ rw h
+
+-- whole records, and both walks
+pub whole_and_walked : (list : List ℕ) (r : Bool) → length list % record_length ≡ 0 → r ≡ ordered (records list) → r ≡ well_listed list
 unfolding well_listed
-all_ordered list h e = rw (eq-eqb _ _ h) e
+whole_and_walked list r h e = rw (eq-eqb _ _ h) e
 
--- a turn of the check: what is left decides, and its first record with it
-module _ (list : List ℕ) (at : ℕ) (h : at + record_length ≤ length list) (left : ordered (records list) ≡ ordered (records (drop at list))) where
-  turn : ordered (records list)
-      ≡ fit (record_from list at) && (below (record_from list at) (records (drop (at + record_length) list)) && ordered (records (drop (at + record_length) list)))
-  turn = left ∙ ordered_next list at h
-
-  pub unfit : fit (record_from list at) ≡ false → well_listed list ≡ false
-  unfit f = not_ordered list (turn ∙ rw f)
-
-  pub not_below : fit (record_from list at) ≡ true → below (record_from list at) (records (drop (at + record_length) list)) ≡ false → well_listed list ≡ false
-  not_below f b = not_ordered list (turn ∙ rw (f, b))
-
-  pub goes_on : fit (record_from list at) ≡ true → below (record_from list at) (records (drop (at + record_length) list)) ≡ true
-      → ordered (records list) ≡ ordered (records (drop (at + record_length) list))
-  goes_on f b = turn ∙ rw (f, b)
+pub not_whole : (list : List ℕ) → (length list % record_length ≡ 0 → ⊥) → false ≡ well_listed list
+unfolding well_listed
+not_whole list h = rw (ne_eqb _ _ h)
 
 -- ---- test and sentence
 

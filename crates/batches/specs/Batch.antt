@@ -1,7 +1,8 @@
 -- The batch list: records one after another, each id (32), owner (20), depth (1).
 use Rattle.std.specs.Prelude.{◌≡◌, Bool, true, cond, ◌&&◌, List, [], ◌∷◌, ℕ, ◌*◌, ◌/◌, ◌%◌, ◌≤◌, ◌<◌, eqb, leb, length, get_or, take, drop}
-use Rattle.octets.specs.declared.order.Order.TheVariants.{Less}
-use Rattle.octets.specs.Order.{byte_order, is_less, is_same}
+use Rattle.std.specs.declared.cmp.Ordering.TheVariants.{Less}
+use Rattle.std.specs.Ordering.{is_lt, is_eq}
+use Rattle.octets.specs.Order.{byte_order}
 use Rattle.octets.specs.Pieces.{pieces}
 
 -- the one place where a record's length stands
@@ -61,10 +62,14 @@ records list = pieces record_length (count list) list
 unfoldable pub fit : List ℕ → Bool
 fit batch = leb 17 (depth_of batch) && leb (depth_of batch) 40
 
--- the batch's id is below that of the first of those that follow
+-- the batch's id is below the next one's
+abbrev pub precedes : List ℕ → List ℕ → Bool
+precedes batch next = is_lt (byte_order (id_of batch) (id_of next))
+
+-- and below that of the first of those that follow
 unfoldable pub below : List ℕ → List (List ℕ) → Bool
 below batch [] = true
-below batch (next ∷ rest) = is_less (byte_order (id_of batch) (id_of next))
+below batch (next ∷ rest) = precedes batch next
 
 unfoldable pub ordered : List (List ℕ) → Bool
 ordered [] = true
@@ -78,4 +83,4 @@ well_listed list = eqb (length list % record_length) 0 && ordered (records list)
 -- the first of the batches with this id; no bytes where there is none
 unfoldable pub find : List ℕ → List (List ℕ) → List ℕ
 find id [] = []
-find id (batch ∷ rest) = cond (is_same (byte_order (id_of batch) id)) batch (find id rest)
+find id (batch ∷ rest) = cond (is_eq (byte_order (id_of batch) id)) batch (find id rest)

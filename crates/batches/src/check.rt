@@ -1,8 +1,9 @@
 // The batch list: records one after another, strictly ascending by id.
-ghost use Rattle.std.specs.Prelude.{◌≡◌, ◌+◌, ◌≤◌, length, drop};
-ghost use Rattle.batches.specs.Batch.{record_length, record_from, records, fit, below, well_listed};
+ghost use Rattle.std.specs.Prelude.{◌≡◌};
+ghost use Rattle.std.specs.List.{list_all, IsAllAdjacentAnswer};
+ghost use Rattle.batches.specs.Batch.{fit, precedes, well_listed};
 
-use octets::order::{Order, compare};
+use octets::order::compare;
 
 // A record: the id comes first, then the owner, then the depth.
 pub const ID: usize = 32;
@@ -15,48 +16,35 @@ pub const RECORD: usize = 53;
 pub fn check_batches(batches: &[u8]) -> bool
     ensures { result ≡ well_listed batches.now }
 {
-    if batches.len() % RECORD != 0 {
-        return false;
-    }
-    let mut at = 0;
-    while at < batches.len() {
-        if !fit(batches, at) {
-            return false;
-        }
-        if !below_next(batches, at) {
-            return false;
-        }
-        at += RECORD;
-    }
-    true
+    let (records, rest) = batches.as_chunks::<RECORD>();
+    rest.is_empty() && all_fit(records) && ascending(records)
 }
 
-// Whether the record at `at` has a depth that a batch may have.
-fn fit(batches: &[u8], at: usize) -> bool
-    requires { at + record_length ≤ length batches.now }
-    ensures { result ≡ fit (record_from batches.now at) }
+// Whether every record is fit.
+fn all_fit(records: &[[u8; RECORD]]) -> bool
+    ensures { result ≡ list_all fit records.now }
 {
-    let depth = batches[at + DEPTH];
-    if depth < 17 {
-        return false;
-    }
-    depth <= 40
+    records.iter().all(is_fit)
 }
 
-// Whether the id of the record at `at` is below that of the next, if there is a next.
-fn below_next(batches: &[u8], at: usize) -> bool
-    requires { at + record_length ≤ length batches.now }
-    ensures { result ≡ below (record_from batches.now at) (records (drop (at + record_length) batches.now)) }
+// Whether a record has a depth that a batch may have.
+#[tactic(auto, unfolding(crate::specs::Batch::fit))]
+fn is_fit(record: &[u8; RECORD]) -> bool
+    ensures { result ≡ fit record.now }
 {
-    let next = at + RECORD;
-    if batches.len() - next < RECORD {
-        return true;
-    }
-    let id_end = at + ID;
-    let next_end = next + ID;
-    match compare(&batches[at..id_end], &batches[next..next_end]) {
-        Order::Less => true,
-        Order::Same => false,
-        Order::More => false,
-    }
+    matches!(record[DEPTH], 17..=40)
+}
+
+// Whether every id is below the next one.
+fn ascending(records: &[[u8; RECORD]]) -> bool
+    ensures { IsAllAdjacentAnswer (λ batch next told. told ≡ precedes batch next) records.now result }
+{
+    records.is_sorted_by(is_below)
+}
+
+// Whether a record's id is below the next one's.
+fn is_below(record: &[u8; RECORD], next: &[u8; RECORD]) -> bool
+    ensures { result ≡ precedes record.now next.now }
+{
+    compare(&record[..ID], &next[..ID]).is_lt()
 }

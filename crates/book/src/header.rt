@@ -1,9 +1,10 @@
-// The numbers in a book's header, each 0 where the book is too short to have it.
+// The numbers in a book's header, each 0 where the book is too short to have it. Each has its name here: one function over the place would hand the
+// layout to every caller.
 ghost use Rattle.std.specs.Prelude.{◌≡◌, eqb, get_or};
 ghost use Rattle.octets.specs.Number.{big_at};
 ghost use Rattle.book.specs.Layout.{state_in, starting_in, depth_in};
 
-use octets::number::read32;
+use octets::number::read;
 
 // Whether the book says that it is overfull.
 pub fn overfull(book: &[u8]) -> bool
@@ -30,19 +31,19 @@ pub fn depth(book: &[u8]) -> u8
 pub fn capacity(book: &[u8]) -> usize
     ensures { result ≡ big_at 4 book.now 40 }
 {
-    read32(book, 40) as usize
+    read::<u32>(book, 40) as usize
 }
 
 // How many records there are.
 pub fn count(book: &[u8]) -> usize
     ensures { result ≡ big_at 4 book.now 44 }
 {
-    read32(book, 44) as usize
+    read::<u32>(book, 44) as usize
 }
 
 // The byte of `book` at `at`.
 pub(crate) fn byte(book: &[u8], at: usize) -> u8
     ensures { result ≡ get_or book.now at 0 }
 {
-    if at < book.len() { book[at] } else { 0 }
+    book.get(at).copied().unwrap_or(0)
 }

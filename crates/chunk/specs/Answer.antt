@@ -1,24 +1,22 @@
 -- What each call answers, on every input, and document 01's number for each answer.
-use Rattle.std.specs.Prelude.{cond, List, ℕ, eqb, ltb, length, replicate}
+use Rattle.std.specs.Prelude.{Result, Ok, Err, cond, List, ℕ, eqb, ltb, length}
+use Rattle.answers.specs.Number.{done, answer_number}
 use Rattle.merkle.specs.Tree.{address_of}
-use Rattle.chunk.specs.declared.addresses.AddressAnswer.{AddressAnswer}
-use Rattle.chunk.specs.declared.addresses.AddressAnswer.TheVariants as Address
-use Rattle.chunk.specs.declared.addresses.Addressed.{Addressed}
+use Rattle.chunk.specs.declared.addresses.AddressError.{AddressError}
+use Rattle.chunk.specs.declared.addresses.AddressError.TheVariants as Refused
 
-abbrev pub address_number : AddressAnswer → ℕ
-address_number Address.Done = 0
-address_number Address.WrongLength = 10
-address_number Address.TooLong = 12
+abbrev pub error_number : AddressError → ℕ
+error_number Refused.WrongLength = 10
+error_number Refused.TooLong = 12
 
--- a refusal hands back zeros for a digest
-abbrev pub refused : AddressAnswer → Addressed
-refused a = record { answer = a; digest = replicate 32 0 }
+abbrev pub address_number : Result (List ℕ) AddressError → ℕ
+address_number = answer_number done error_number
 
-unfoldable pub addressed : List ℕ → List ℕ → List ℕ → Addressed
+unfoldable pub addressed : List ℕ → List ℕ → List ℕ → Result (List ℕ) AddressError
 addressed prefix span chunk =
     cond (eqb (length span) 8)
-    (cond (ltb 4096 (length chunk)) (refused Address.TooLong) (record { answer = Address.Done; digest = address_of prefix span chunk }))
-    (refused Address.WrongLength)
+    (cond (ltb 4096 (length chunk)) (Err Refused.TooLong) (Ok (address_of prefix span chunk)))
+    (Err Refused.WrongLength)
 
-unfoldable pub anchored_addressed : List ℕ → List ℕ → List ℕ → Addressed
-anchored_addressed anchor span chunk = cond (eqb (length anchor) 32) (addressed anchor span chunk) (refused Address.WrongLength)
+unfoldable pub anchored_addressed : List ℕ → List ℕ → List ℕ → Result (List ℕ) AddressError
+anchored_addressed anchor span chunk = cond (eqb (length anchor) 32) (addressed anchor span chunk) (Err Refused.WrongLength)

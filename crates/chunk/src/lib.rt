@@ -3,4 +3,4 @@
 
 mod addresses;
 
-pub use addresses::{AddressAnswer, Addressed, address, anchored_address};
+pub use addresses::{AddressError, address, anchored_address};

@@ -1,52 +1,34 @@
 // The files that the day is read from.
-ghost use Rattle.streams.specs.Counts.{IsPrefixLen};
-
 use std::fs::File;
 use std::rt::Files;
 use streams::{fail, read_full};
 
-// Reads a file of records of one size, and answers how many bytes it has. 0 is answered where it cannot be used, once the reader is
-// told why.
-pub(crate) fn load(
+// Reads a file of records of one size into a space. Where it cannot be used, the reader is told why.
+pub(crate) fn load<'a>(
     rt: &(impl Files + Eprint + AllocGlobal),
     path: &str,
     size: usize,
-    space: &mut [u8],
-) -> usize
-    ensures { IsPrefixLen result space.new }
-{
+    space: &'a mut [u8],
+) -> Option<&'a [u8]> {
     let mut file = match File::open(rt, path) {
         Ok(file) => file,
         Err(error) => {
             fail(rt, path, error);
             blame(rt, path, "cannot be opened");
-            return 0;
+            return None;
         }
     };
     let length = read_full(&mut file, space);
-    if !is_whole(length, size, space.len()) {
+    // A file that fills the space may go on.
+    if length == 0 || length == space.len() || size == 0 || length % size != 0 {
         blame(
             rt,
             path,
             "is damaged: its length is not that of whole records",
         );
-        return 0;
+        return None;
     }
-    length
-}
-
-// Whether so many bytes are some whole records, and less than there is room for: a file that fills the space may go on.
-fn is_whole(length: usize, size: usize, space: usize) -> bool {
-    if length == 0 {
-        return false;
-    }
-    if length == space {
-        return false;
-    }
-    if size == 0 {
-        return false;
-    }
-    length % size == 0
+    Some(&space[..length])
 }
 
 // Names a file and says what is wrong with it.

@@ -1,15 +1,13 @@
 // One machine: it hears offers, keeps its book by them, and draws at noon.
-ghost use Rattle.std.specs.Prelude.{◌≤◌, length};
-
-use crate::shelved::shelve;
-use crate::stock::{OFFER, heard_count, heard_place, missed};
+use crate::shelved::Shelf;
+use crate::stock::{Morning, OFFER, Place};
+use answers::Numbered;
 use book::header::{count, depth};
-use draw::draw;
+use draw::{DrawError, draw};
 use keccak::keccak256;
 use opening::open::open;
-use reserve::offer::{OfferAnswer, offer};
+use reserve::offer::{Filed, OfferError, offer};
 use verdict::count::one_more;
-use verdict::machines::Drawn;
 
 // How many records a book has room for.
 pub(crate) const CAPACITY: u64 = 24;
@@ -17,102 +15,86 @@ pub(crate) const CAPACITY: u64 = 24;
 // A header of 48 bytes, and 145 for each record.
 const BOOK: usize = 3528;
 
-// Room for a book's chunks.
-const SHELF: usize = 16384;
-
 // One more than the largest answer to an offer.
-pub(crate) const ANSWERS: usize = 23;
+const ANSWERS: usize = 23;
+
+// The first answer of a refusal.
+const REFUSED: usize = 10;
 
 // A machine at noon.
 #[derive(Clone, Copy)]
 pub(crate) struct Machine {
-    pub heard: u64,
-    pub missed: u64,
+    pub name: char,
+    pub heard: usize,
+    pub missed: usize,
     // How many offers had each answer.
-    pub answers: [u64; ANSWERS],
-    pub records: u64,
-    pub depth: u64,
+    answers: [u64; ANSWERS],
+    pub records: usize,
+    pub depth: u8,
     // Of the book's bytes.
     pub digest: [u8; 32],
-    pub drawn: Drawn,
+    pub drawn: Result<[u8; 32], DrawError>,
 }
 
-// A machine that heard these offers, at noon.
-pub(crate) fn noon(
-    batches: &[u8],
-    offers: &[u8],
-    chunks: &[u8],
-    overlay: &[u8],
-    anchor: &[u8],
-    heard: &[u8],
-) -> Machine {
-    let mut book = [0u8; BOOK];
-    let mut answers = [0u64; ANSWERS];
-    open(&mut book, overlay, CAPACITY, 0);
-    hear(&mut book, &mut answers, batches, offers, heard);
-    Machine {
-        heard: heard_count(heard) as u64,
-        missed: missed(heard, offers),
-        answers,
-        records: count(&book) as u64,
-        depth: depth(&book) as u64,
-        digest: keccak256(&book),
-        drawn: drawn(&book, chunks, anchor),
+impl Machine {
+    // The machine that heard these offers.
+    pub(crate) fn at_noon(name: char, morning: &Morning, heard: &[Place]) -> Machine {
+        let mut book = [0u8; BOOK];
+        let mut answers = [0u64; ANSWERS];
+        // Nothing is refused here: the sizes are those that a book of this capacity asks.
+        let _ = open(&mut book, morning.overlay, CAPACITY, 0);
+        hear(&mut book, &mut answers, morning, heard);
+        Machine {
+            name,
+            heard: heard.len(),
+            missed: morning.missed(heard),
+            answers,
+            records: count(&book),
+            depth: depth(&book),
+            digest: keccak256(&book),
+            drawn: drawn(&book, morning),
+        }
+    }
+
+    // How many offers had an answer.
+    pub(crate) fn answered(&self, answer: impl Numbered + Drop) -> u64 {
+        let number = answer.number() as usize;
+        self.answers.get(number).copied().unwrap_or(0)
+    }
+
+    // How many offers changed nothing.
+    pub(crate) fn refused(&self) -> u64 {
+        self.answers[REFUSED..]
+            .iter()
+            .fold(0, |sum: u64, n| sum.saturating_add(*n))
     }
 }
 
 // What the draw from a book comes to.
-fn drawn(book: &[u8], chunks: &[u8], anchor: &[u8]) -> Drawn {
-    let mut shelf = [0u8; SHELF];
-    let filled = shelve(book, chunks, &mut shelf);
+fn drawn(book: &[u8], morning: &Morning) -> Result<[u8; 32], DrawError> {
+    let shelf = Shelf::of(book, morning);
     let mut sample = [0u8; 1024];
-    let result = draw(book, &shelf[0..filled], anchor, &mut sample);
-    let answer = result.answer;
-    let hash = result.commitment;
-    Drawn {
-        number: answer.number(),
-        hash,
-    }
+    draw(book, shelf.cells(), morning.anchor, &mut sample)
 }
 
 // Offers the book what was heard, and counts the answers.
-fn hear(book: &mut [u8], answers: &mut [u64], batches: &[u8], offers: &[u8], heard: &[u8]) {
-    for i in 0..heard_count(heard) {
-        let answer = offered(book, batches, offers, heard_place(heard, i));
-        counted(answers, answer as usize);
+fn hear(book: &mut [u8], answers: &mut [u64], morning: &Morning, heard: &[Place]) {
+    for place in heard {
+        let answer = offered(book, morning, *place);
+        if let Some(count) = answers.get_mut(answer.number() as usize) {
+            *count = one_more(*count);
+        }
     }
 }
 
-// The number that the offer at a place gets. Where there is none, nothing of it came.
-fn offered(book: &mut [u8], batches: &[u8], offers: &[u8], place: usize) -> u32 {
-    if place >= offers.len() / OFFER {
-        return OfferAnswer::WrongLength.number();
-    }
-    let start = OFFER * place;
-    offered_first(book, batches, &offers[start..])
-}
-
-// The number that the first of these offers gets.
-fn offered_first(book: &mut [u8], batches: &[u8], offers: &[u8]) -> u32
-    requires { 166 ≤ length offers.now }
-{
-    let stamp = arrived(&offers[32..145], offers[165]);
-    offer(book, batches, &offers[0..32], stamp, &offers[145..165]).number()
+// What comes of the offer at a place. Where there is none, nothing of it came.
+fn offered(book: &mut [u8], morning: &Morning, place: Place) -> Result<Filed, OfferError> {
+    let bytes = morning.offer(place).ok_or(OfferError::WrongLength)?;
+    let stamp = arrived(&bytes[32..145], bytes[165]);
+    offer(book, morning.batches, &bytes[..32], stamp, &bytes[145..165])
 }
 
 // What is left of a stamp that lost some of its last bytes.
-fn arrived<'a>(stamp: &'a [u8], lost: u8) -> &'a [u8] {
-    let lost = lost as usize;
-    if lost > stamp.len() {
-        return &stamp[0..0];
-    }
-    let end = stamp.len() - lost;
-    &stamp[0..end]
-}
-
-// One more of an answer.
-fn counted(answers: &mut [u64], answer: usize) {
-    if answer < answers.len() {
-        answers[answer] = one_more(answers[answer]);
-    }
+fn arrived(stamp: &[u8], lost: u8) -> &[u8] {
+    &stamp[..stamp.len().saturating_sub(lost as usize)]
 }

@@ -1,100 +1,50 @@
 // The shelf of a machine: the chunks of its own book's records, in their order.
-ghost use Rattle.std.specs.Prelude.{◌≤◌, length};
+ghost use Rattle.std.specs.Prelude.{◌≤◌};
+ghost use Rattle.day.specs.declared.shelved.TheConstants.{ROOM};
 
+use crate::stock::Morning;
 use book::header::count;
 use book::record::record_at;
-use moving::put;
-use octets::number::read16;
 
-// What stands before a chunk's data: its address, its span and its length.
-const HEAD: usize = 42;
+// Room for a book's chunks.
+const ROOM: usize = 16384;
 
-// Puts the chunk of each record on the shelf, and answers how many bytes they take.
-pub(crate) fn shelve(book: &[u8], chunks: &[u8], shelf: &mut [u8]) -> usize
-    ensures { result ≤ length shelf.old }
-{
-    let mut end = 0;
-    for i in 0..count(book) {
-        end = with_chunk(book, i, chunks, shelf, end);
-    }
-    end
+// The cells that stand on a shelf, and how many bytes they take: fixed room, so that a draw needs no heap.
+#[derive(Drop)]
+pub(crate) struct Shelf {
+    bytes: [u8; ROOM],
+    filled: usize,
+    ghost within: { filled ≤ ROOM },
 }
 
-// One chunk more. A draw refuses a shelf that lacks one.
-fn with_chunk(book: &[u8], i: usize, chunks: &[u8], shelf: &mut [u8], end: usize) -> usize
-    requires { end ≤ length shelf.old }
-    ensures { result ≤ length shelf.old }
-{
-    let cell = cell_of(chunks, address_of(book, i));
-    if shelf.len() - end < cell.len() {
-        return end;
-    }
-    put(shelf, end, cell);
-    end + cell.len()
-}
-
-// The address in record i, or nothing where the book does not reach it.
-fn address_of<'a>(book: &'a [u8], i: usize) -> &'a [u8] {
-    let record = record_at(book, i);
-    if record.len() < 80 {
-        return &record[0..0];
-    }
-    &record[48..80]
-}
-
-// The cell of the chunk with an address, or nothing where there is no such chunk.
-fn cell_of<'a>(chunks: &'a [u8], address: &[u8]) -> &'a [u8] {
-    let mut at = 0;
-    while at < chunks.len() {
-        let end = cell_end(chunks, at);
-        if end - at < HEAD {
-            return &chunks[0..0];
+impl Shelf {
+    // The chunk of each record that has one.
+    pub(crate) fn of(book: &[u8], morning: &Morning) -> Shelf {
+        let mut shelf = Shelf {
+            bytes: [0; ROOM],
+            filled: 0,
+        };
+        let records = (0..count(book)).map(|i| record_at(book, i));
+        for cell in records.filter_map(|record| morning.cell(address(record)?)) {
+            shelf.push(cell);
         }
-        if has_address(chunks, at, address) {
-            let start = at + 32;
-            return &chunks[start..end];
+        shelf
+    }
+
+    // One cell more, where there is room for it: a draw refuses a shelf that lacks one.
+    fn push(&mut self, cell: &[u8]) {
+        if let Some(room) = self.bytes[self.filled..].get_mut(..cell.len()) {
+            room.copy_from_slice(cell);
+            self.filled += cell.len();
         }
-        at = end;
     }
-    &chunks[0..0]
+
+    pub(crate) fn cells(&self) -> &[u8] {
+        &self.bytes[..self.filled]
+    }
 }
 
-// Whether the chunk at `at` has an address.
-fn has_address(chunks: &[u8], at: usize, address: &[u8]) -> bool
-    requires { at ≤ length chunks.now }
-{
-    let rest = &chunks[at..];
-    if rest.len() < 32 {
-        return false;
-    }
-    &rest[0..32] == address
-}
-
-// Where the cell at `at` ends, or `at` itself where it is not whole.
-fn cell_end(chunks: &[u8], at: usize) -> usize
-    requires { at ≤ length chunks.now }
-    ensures { (at ≤ result) × (result ≤ length chunks.now) }
-{
-    let left = chunks.len() - at;
-    if left < HEAD {
-        return at;
-    }
-    let size = HEAD + read16(chunks, at + 40) as usize;
-    if left < size {
-        return at;
-    }
-    at + size
-}
-
-// Whether the chunks end where the file does.
-pub(crate) fn all_whole(chunks: &[u8]) -> bool {
-    let mut at = 0;
-    while at < chunks.len() {
-        let end = cell_end(chunks, at);
-        if end - at < HEAD {
-            return false;
-        }
-        at = end;
-    }
-    true
+// The address in a record, behind its slot and its time.
+fn address(record: &[u8]) -> Option<&[u8; 32]> {
+    record.get(48..)?.first_chunk()
 }

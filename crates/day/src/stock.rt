@@ -1,56 +1,81 @@
-// The day's files: offers of 166 bytes, heard places of 2, and cells with their address before them.
-use octets::number::read16;
-use verdict::count::one_more;
+// What the day's files hold: offers of 166 bytes, places of 2, and chunks, each its address and its cell.
+ghost use Rattle.std.specs.Prelude.{length};
+ghost use Rattle.std.specs.Iterator.{at_most};
+
+use octets::number::read;
 
 // Address, stamp and account, and how many of the stamp's last bytes were lost on the way.
 pub(crate) const OFFER: usize = 166;
 
-// How many offers there are.
-pub(crate) fn offer_count(offers: &[u8]) -> usize {
-    offers.len() / OFFER
+// The place of an offer among the offers.
+pub(crate) type Place = [u8; 2];
+
+// What stands in a cell before a chunk's data: its span and its length.
+const HEAD: usize = 10;
+
+// What went round the neighbourhood, and what is the same for all its machines.
+#[derive(Clone, Copy)]
+pub(crate) struct Morning<'a> {
+    pub batches: &'a [u8],
+    pub offers: &'a [[u8; OFFER]],
+    pub chunks: &'a [u8],
+    pub overlay: &'a [u8],
+    pub anchor: &'a [u8],
 }
 
-// How many offers a machine heard.
-pub(crate) fn heard_count(heard: &[u8]) -> usize {
-    heard.len() / 2
-}
+impl<'a> Morning<'a> {
+    // The offer at a place, if there is one.
+    pub(crate) fn offer(&self, place: Place) -> Option<&'a [u8; OFFER]> {
+        self.offers.get(index(place))
+    }
 
-// The place of the offer that a machine heard so many offers after its first.
-pub(crate) fn heard_place(heard: &[u8], i: usize) -> usize {
-    if i < heard.len() / 2 {
-        read16(heard, 2 * i) as usize
-    } else {
-        0
+    // Whether every place that was heard is an offer's.
+    pub(crate) fn has_all(&self, heard: &[Place]) -> bool {
+        heard.iter().all(|place| self.offer(*place).is_some())
+    }
+
+    // How many offers a machine never heard.
+    pub(crate) fn missed(&self, heard: &[Place]) -> usize {
+        let was_heard = |i: &usize| heard.iter().any(|place| index(*place) == *i);
+        (0..self.offers.len()).filter(|i| !was_heard(i)).count()
+    }
+
+    // The cell of the chunk with an address, if there is such a chunk.
+    pub(crate) fn cell(&self, address: &[u8; 32]) -> Option<&'a [u8]> {
+        Cells { rest: self.chunks }
+            .find(|(of, _)| *of == address)
+            .map(|(_, cell)| cell)
     }
 }
 
-// Whether every place that was heard is an offer's.
-pub(crate) fn all_offered(heard: &[u8], offers: &[u8]) -> bool {
-    for i in 0..heard_count(heard) {
-        if heard_place(heard, i) >= offer_count(offers) {
-            return false;
-        }
-    }
-    true
+// Where a place is, counted from 0.
+fn index(place: Place) -> usize {
+    u16::from_be_bytes(place) as usize
 }
 
-// How many offers a machine never heard.
-pub(crate) fn missed(heard: &[u8], offers: &[u8]) -> u64 {
-    let mut missed = 0;
-    for place in 0..offer_count(offers) {
-        if !was_heard(heard, place) {
-            missed = one_more(missed);
-        }
-    }
-    missed
+// The chunks of a file in their order, each its address and its cell: span, length and data. The walk ends before one that is not whole.
+#[derive(Drop)]
+pub(crate) struct Cells<'a> {
+    rest: &'a [u8],
 }
 
-// Whether a machine heard the offer at a place.
-fn was_heard(heard: &[u8], place: usize) -> bool {
-    for i in 0..heard_count(heard) {
-        if heard_place(heard, i) == place {
-            return true;
-        }
+impl<'a> Iterator for Cells<'a> {
+    type Item = (&'a [u8; 32], &'a [u8]);
+
+    ghost remaining = { λ s. at_most (length s.rest.now) };
+
+    fn next(&mut self) -> Option<(&'a [u8; 32], &'a [u8])> {
+        let (address, rest) = self.rest.split_first_chunk::<32>()?;
+        let size = HEAD + read::<u16>(rest, 8) as usize;
+        let (cell, rest) = rest.split_at_checked(size)?;
+        self.rest = rest;
+        Some((address, cell))
     }
-    false
+}
+
+// Whether the chunks end where the file does.
+pub(crate) fn all_whole(chunks: &[u8]) -> bool {
+    let mut cells = Cells { rest: chunks };
+    for _ in cells.by_ref() {}
+    cells.rest.is_empty()
 }

@@ -3,14 +3,15 @@ ghost use Rattle.std.specs.Prelude.{◌≡◌, [], ◌∷◌, ◌/◌, ◌%◌, 
 ghost use Rattle.digits.specs.Field.{digit as Field·digit, hex};
 ghost use Rattle.digits.specs.Spelled.{spelled};
 
-// A number's decimal digits: the bytes from `from` on, behind zeros.
+// A number's decimal digits: the bytes from `from` on, behind zeros. An array and a place in it, since these crates have no heap for a String.
 #[derive(Drop)]
 pub struct Decimal {
     pub bytes: [u8; 20],
     pub from: usize,
 }
 
-// The decimal digits of a number, from the last one up.
+// The decimal digits of a number, from the last one up. A `while`, since the number ends it and not the array: a `for` over places would
+// need a way out besides, and `from` all the same.
 pub fn decimal_of(n: u64) -> Decimal
     ensures value { result ≡ spelled n }
     ensures from_bound { (result.from < 20) × (20 ≤ length result.bytes) }
@@ -21,7 +22,7 @@ pub fn decimal_of(n: u64) -> Decimal
     while 10 <= above {
         from -= 1;
         bytes[from] = digit(above % 10);
-        above = above / 10;
+        above /= 10;
     }
     from -= 1;
     bytes[from] = digit(above);
@@ -48,14 +49,14 @@ pub fn hex_of(a: u8, b: u8, c: u8, d: u8) -> [u8; 8]
 fn high(b: u8) -> u8
     ensures { result ≡ Field·digit (b / 16) }
 {
-    digit((b / 16) as u64)
+    digit(u64::from(b / 16))
 }
 
 // The digit of its lower half.
 fn low(b: u8) -> u8
     ensures { result ≡ Field·digit (b % 16) }
 {
-    digit((b % 16) as u64)
+    digit(u64::from(b % 16))
 }
 
 // The digit of a number below 16.

@@ -7,21 +7,23 @@ use mathlib.Core.List.{List, [], ◌∷◌, map}
 use Prim.Native.Nat.{ℕ, ◌≤◌}
 use native.Mathlib.Omega.{arith}
 use lib.Dec.{eqb, ltb}
-use lib.ListN.{length, length-take, length-map, replicate}
+use lib.ListN.{length, length-take, length-map}
 use borrow.Author.Tests.{ltb-false, eqb-true}
 use Rattle.records.specs.Record.{address_in}
 use Rattle.book.specs.Layout.{state_in, count_in, records_in}
 use Rattle.wellformed.specs.Check.{well_formed}
 use Rattle.book.proofs.Cuts.{counted}
-use Rattle.draw.specs.declared.answer.DrawAnswer.{DrawAnswer}
-use Rattle.draw.specs.declared.answer.DrawAnswer.TheVariants.{Done, NotWellFormed, Overfull, WrongLength, TooFew}
-use Rattle.draw.specs.Answer.{only_done, and_then}
+use Rattle.std.specs.Prelude.{Result, Ok, Err}
+use Rattle.answers.specs.Number.{digest_or_zeros}
+use Rattle.draw.specs.declared.answer.DrawError.{DrawError}
+use Rattle.draw.specs.declared.answer.DrawError.TheVariants.{NotWellFormed, Overfull, WrongLength, TooFew}
+use Rattle.draw.specs.Answer.{Done, only_done, and_then}
 use Rattle.shelf.specs.Cell.{Cell, pair_of}
 use Rattle.shelf.proofs.Pairs.{pair_length}
 use Rattle.draw.specs.Shelf.{shelf_answer}
 use Rattle.sample.specs.Sample.{gathered, sixteen, written, commitment_of}
 use Rattle.draw.specs.Draw.{addresses_in, cells_drawn, pairs_drawn, sixteen_drawn, lent_answer, draw_answer, drawn, sample_after}
-use Rattle.draw.proofs.Shelves.{not_done, both_done}
+use Rattle.draw.proofs.Shelves.{both_done}
 use Rattle.sample.proofs.Gathering.{take_member, all_from}
 use Rattle.sample.proofs.Laying.{Sized}
 
@@ -35,12 +37,12 @@ unfolding lent_answer
 lent_done book anchor sample = by (well_formed book) (eqb (state_in book) 1) (eqb (length anchor) 32) (eqb (length sample) 1024) refl refl refl
   where
     by : (w o a s : Bool) → well_formed book ≡ w → eqb (length anchor) 32 ≡ a → eqb (length sample) 1024 ≡ s
-        → cond w (cond o Overfull (cond (a && s) Done WrongLength)) NotWellFormed ≡ Done → Lent book anchor sample
-    by true true a s w x y e = not_done Overfull (omega arith) e
+        → cond w (cond o (Err Overfull) (cond (a && s) Done (Err WrongLength))) (Err NotWellFormed) ≡ Done → Lent book anchor sample
+    by true true a s w x y e = cc
     by true false true true w x y e = record { formed = w; anchor32 = eqb-true _ _ x; sample1024 = eqb-true _ _ y }
-    by true false true false w x y e = not_done WrongLength (omega arith) e
-    by true false false s w x y e = not_done WrongLength (omega arith) e
-    by false o a s w x y e = not_done NotWellFormed (omega arith) e
+    by true false true false w x y e = cc
+    by true false false s w x y e = cc
+    by false o a s w x y e = cc
 
 pub record Good (book shelf anchor sample : List ℕ) : Type 0 where
   pub lent : Lent book anchor sample
@@ -58,7 +60,7 @@ sixteen_most book shelf anchor = most (pairs_drawn book shelf anchor)
 pub draw_good : (book shelf anchor sample : List ℕ) → draw_answer book shelf anchor sample ≡ Done → Good book shelf anchor sample
 unfolding draw_answer
 draw_good book shelf anchor sample e =
-    let few = cond (ltb (length (sixteen_drawn book shelf anchor)) 16) TooFew Done in
+    let few = cond (ltb (length (sixteen_drawn book shelf anchor)) 16) (Err TooFew) Done in
     let first = both_done (lent_answer book anchor sample) (and_then (shelf_answer 0 (addresses_in book) shelf) few) e in
     let second = both_done (shelf_answer 0 (addresses_in book) shelf) few first.1 in
     record {
@@ -67,22 +69,21 @@ draw_good book shelf anchor sample e =
       enough = by (ltb (length (sixteen_drawn book shelf anchor)) 16) refl second.1;
     }
   where
-    by : (b : Bool) → ltb (length (sixteen_drawn book shelf anchor)) 16 ≡ b → cond b TooFew Done ≡ Done → length (sixteen_drawn book shelf anchor) ≡ 16
-    by true h k = not_done TooFew (omega arith) k
+    by : (b : Bool) → ltb (length (sixteen_drawn book shelf anchor)) 16 ≡ b → cond b (Err TooFew) Done ≡ Done → length (sixteen_drawn book shelf anchor) ≡ 16
+    by true h k = cc
     by false h k = omega (arith, ltb-false (length (sixteen_drawn book shelf anchor)) 16 h, sixteen_most book shelf anchor)
 
 -- ---- what is handed back then
 
 pub drawn_commitment : (book shelf anchor sample : List ℕ) → draw_answer book shelf anchor sample ≡ Done
-    → (drawn book shelf anchor sample).commitment ≡ commitment_of (sixteen_drawn book shelf anchor)
+    → digest_or_zeros (drawn book shelf anchor sample) ≡ commitment_of (sixteen_drawn book shelf anchor)
 unfolding drawn
-drawn_commitment book shelf anchor sample e =
-    ap (λ (a : DrawAnswer). only_done a (commitment_of (sixteen_drawn book shelf anchor)) (replicate 32 0)) e
+drawn_commitment book shelf anchor sample e = ap (λ (a : Result (Unit {0}) DrawError). digest_or_zeros (and_then a (Ok (commitment_of (sixteen_drawn book shelf anchor))))) e
 
 pub drawn_sample : (book shelf anchor sample : List ℕ) → draw_answer book shelf anchor sample ≡ Done
     → sample_after book shelf anchor sample ≡ written (sixteen_drawn book shelf anchor)
 unfolding sample_after
-drawn_sample book shelf anchor sample e = ap (λ (a : DrawAnswer). only_done a (written (sixteen_drawn book shelf anchor)) sample) e
+drawn_sample book shelf anchor sample e = ap (λ (a : Result (Unit {0}) DrawError). only_done a (written (sixteen_drawn book shelf anchor)) sample) e
 
 -- ---- lengths
 

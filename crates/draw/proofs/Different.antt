@@ -7,8 +7,8 @@ use Prim.Native.Nat.{ℕ, suc, ◌+◌, ◌≤◌}
 use native.Mathlib.Omega.{arith}
 use lib.ListN.{length, length-take}
 use Rattle.octets.specs.Order.{byte_order}
-use Rattle.octets.specs.declared.order.Order.{Order}
-use Rattle.octets.specs.declared.order.Order.TheVariants.{Less, Same, More}
+use Rattle.std.specs.declared.cmp.Ordering.{Ordering}
+use Rattle.std.specs.declared.cmp.Ordering.TheVariants.{Less, Equal, Greater}
 use Rattle.octets.proofs.Ordered.{same_equal}
 use Rattle.sample.specs.Sample.{standing, entered, gathered, sixteen, Ascending}
 use Rattle.draw.specs.Theorems.{Different, SixteenAmong}
@@ -27,10 +27,10 @@ unfolding entered
 entered_longer p [] never = refl
 entered_longer p (q ∷ l) never = go (byte_order p q) refl (entered_longer p l (λ m. never (Memᴰ.tail m)))
   where
-    go : (o : Order) → byte_order p q ≡ o → length (entered p l) ≡ suc (length l) → length (standing o p q l (entered p l)) ≡ suc (length (q ∷ l))
+    go : (o : Ordering) → byte_order p q ≡ o → length (entered p l) ≡ suc (length l) → length (standing o p q l (entered p l)) ≡ suc (length (q ∷ l))
     go Less e further = refl
-    go Same e further = absurd (never (Memᴰ.head (same_equal p q e)))
-    go More e further = ap suc further
+    go Equal e further = absurd (never (Memᴰ.head (same_equal p q e)))
+    go Greater e further = ap suc further
 
 gathered_longer : (held l : List (List ℕ)) → Different l → ((p : List ℕ) → Memᴰ p l → Memᴰ p held → ⊥) → length (gathered held l) ≡ length held + length l
 unfolding gathered

@@ -1,81 +1,77 @@
 -- What is handed back, by where the draw ended.
-use mathlib.Core.Bool.{Bool, true, false, false≢true}
-use mathlib.Core.Path.{◌≡◌, refl, sym, ap, ap₂, ◌∙◌}
-use mathlib.Core.List.{List}
-use Prim.Native.Nat.{ℕ}
-use native.Mathlib.Omega.{arith}
-use lib.ListN.{length, replicate}
+use Rattle.std.specs.Prelude.{Result, Ok, Err, List, ◌≡◌, ℕ, ◌+◌, ◌*◌, ◌≤◌, length}
+use Rattle.std.proofs.Common.{ap, ◌∙◌}
+use Rattle.octets.specs.Pieces.{pieces}
+use Rattle.book.specs.Layout.{count_in}
 use Rattle.sample.specs.Sample.{written, commitment_of}
 use Rattle.sample.specs.Kept.{committed, written_over}
-use Rattle.sample.proofs.Held.{not_sixteen, sixteen_out}
-use Rattle.draw.specs.declared.answer.DrawAnswer.{DrawAnswer}
-use Rattle.draw.specs.declared.answer.DrawAnswer.TheVariants.{Done, NotWellFormed, Overfull, WrongLength, ShelfEnds, TooLong, Mismatch, Left, TooFew}
-use Rattle.draw.specs.declared.answer.DrawResult.{DrawResult}
-use Rattle.draw.specs.declared.drawing.Collected.{Collected}
-use Rattle.draw.specs.Answer.{is_done, and_then, only_done, refused}
+use Rattle.sample.proofs.Held.{sixteen_out}
+use Rattle.draw.specs.declared.answer.DrawError.{DrawError}
+use Rattle.draw.specs.Answer.{Done, and_then, only_done}
 use Rattle.draw.specs.Draw.{sixteen_drawn, lent_answer, draw_answer, drawn, sample_after}
-use Rattle.draw.specs.Inside.{walk_answer, Collects}
-use Rattle.draw.proofs.Collecting.{is_done_lem, refused_stays}
-
-refused_keeps : (a : DrawAnswer) (done kept : List ℕ) → is_done a ≡ false → only_done a done kept ≡ kept
-refused_keeps Done done kept h = absurd (false≢true (sym h))
-refused_keeps NotWellFormed done kept h = refl
-refused_keeps Overfull done kept h = refl
-refused_keeps WrongLength done kept h = refl
-refused_keeps (ShelfEnds k) done kept h = refl
-refused_keeps (TooLong k) done kept h = refl
-refused_keeps (Mismatch k) done kept h = refl
-refused_keeps Left done kept h = refl
-refused_keeps TooFew done kept h = refl
+use Rattle.draw.specs.Inside.{walk_answer}
+use Rattle.draw.proofs.Answered.{lent_done}
+use Rattle.draw.proofs.Walking.{formed_long}
 
 module _ (book shelf anchor sample : List ℕ) where
-  -- the result, and the buffer afterwards
-  abbrev pub Given : DrawResult → List ℕ → Type 0
-  Given r after = (r ≡ drawn book shelf anchor sample) × (after ≡ sample_after book shelf anchor sample)
+  drawn_by : (a : Result (Unit {0}) DrawError) → draw_answer book shelf anchor sample ≡ a
+      → drawn book shelf anchor sample ≡ and_then a (Ok (commitment_of (sixteen_drawn book shelf anchor)))
+  unfolding drawn
+  drawn_by a e = ap (λ (x : Result (Unit {0}) DrawError). and_then x (Ok (commitment_of (sixteen_drawn book shelf anchor)))) e
 
-  abbrev result_of : DrawAnswer → DrawResult
-  result_of a = record { answer = a; commitment = only_done a (commitment_of (sixteen_drawn book shelf anchor)) (replicate 32 0) }
+  left_by : (a : Result (Unit {0}) DrawError) → draw_answer book shelf anchor sample ≡ a
+      → sample_after book shelf anchor sample ≡ only_done a (written (sixteen_drawn book shelf anchor)) sample
+  unfolding sample_after
+  left_by a e = ap (λ (x : Result (Unit {0}) DrawError). only_done x (written (sixteen_drawn book shelf anchor)) sample) e
 
-  refusal : (a : DrawAnswer) → is_done a ≡ false → draw_answer book shelf anchor sample ≡ a → Given (refused a) sample
-  unfolding drawn sample_after
-  refusal a h e = (
-    sym (ap result_of e ∙ ap (λ (c : List ℕ). record { answer = a; commitment = c }) (refused_keeps a (commitment_of (sixteen_drawn book shelf anchor)) (replicate 32 0) h)),
-    sym (ap (λ (x : DrawAnswer). only_done x (written (sixteen_drawn book shelf anchor)) sample) e ∙ refused_keeps a (written (sixteen_drawn book shelf anchor)) sample h),
-  )
+  -- ---- refused before the shelf
 
-  success : (a : DrawAnswer) (commitment after : List ℕ) → a ≡ Done → draw_answer book shelf anchor sample ≡ Done
-      → commitment ≡ commitment_of (sixteen_drawn book shelf anchor) → after ≡ written (sixteen_drawn book shelf anchor)
-      → Given (record { answer = a; commitment = commitment }) after
-  unfolding drawn sample_after
-  success a commitment after done e c w = (
-    ◌∙◌ {b = result_of Done} (ap₂ (λ (x : DrawAnswer) (d : List ℕ). record { answer = x; commitment = d }) done c) (sym (ap result_of e)),
-    w ∙ sym (ap (λ (x : DrawAnswer). only_done x (written (sixteen_drawn book shelf anchor)) sample) e),
-  )
+  by_lent : (error : DrawError) → lent_answer book anchor sample ≡ Err error → draw_answer book shelf anchor sample ≡ Err error
+  unfolding draw_answer walk_answer
+  by_lent error e = ap (λ (x : Result (Unit {0}) DrawError). and_then x (walk_answer book shelf anchor)) e
 
-  pub refused_lent : (a : DrawAnswer) → a ≡ lent_answer book anchor sample → is_done a ≡ false → Given (refused a) sample
-  unfolding draw_answer
-  refused_lent a e h = refusal a h (ap (λ (x : DrawAnswer). and_then x (walk_answer book shelf anchor)) (sym e) ∙ refused_stays a (walk_answer book shelf anchor) h)
+  pub drawn_lent : (error : DrawError) → lent_answer book anchor sample ≡ Err error → drawn book shelf anchor sample ≡ Err error
+  drawn_lent error e = drawn_by (Err error) (by_lent error e)
 
-  past_lent : lent_answer book anchor sample ≡ Done → draw_answer book shelf anchor sample ≡ walk_answer book shelf anchor
-  unfolding draw_answer
-  past_lent e = ap (λ (x : DrawAnswer). and_then x (walk_answer book shelf anchor)) e
+  pub left_lent : (error : DrawError) → lent_answer book anchor sample ≡ Err error → sample_after book shelf anchor sample ≡ sample
+  left_lent error e = left_by (Err error) (by_lent error e)
 
-  -- what the walk left is handed on: sixteen pairs where it was not refused, none where it was
-  pub handed_on : (r : Collected) (best commitment after : List ℕ) → lent_answer book anchor sample ≡ Done → length sample ≡ 1024 → length best ≡ 1024
-      → Collects book shelf anchor r best → commitment ≡ committed best r.held sample → after ≡ written_over best r.held sample
-      → Given (record { answer = r.answer; commitment = commitment }) after
-  handed_on r best commitment after lent ls lb found e f = by (is_done r.answer) refl
-    where
-      answered : draw_answer book shelf anchor sample ≡ r.answer
-      answered = past_lent lent ∙ sym found.answered
+  -- ---- past that as the walk along the shelf
 
-      by : (b : Bool) → is_done r.answer ≡ b → Given (record { answer = r.answer; commitment = commitment }) after
-      by true h =
-          let done = is_done_lem r.answer h in
-          let kept = found.kept done in
-          let out = sixteen_out best r.held sample kept.0 lb ls in
-          success r.answer commitment after done (answered ∙ done) (e ∙ out.0 ∙ ap commitment_of kept.1) (f ∙ out.1 ∙ ap written kept.1)
-      by false h =
-          let nothing = not_sixteen best r.held sample (λ all. absurd (omega (arith, found.none h))) in
-          let given = refusal r.answer h answered in
-          (ap (λ (c : List ℕ). record { answer = r.answer; commitment = c }) (e ∙ sym nothing.0) ∙ given.0, f ∙ sym nothing.1 ∙ given.1)
+  module _ (lent : lent_answer book anchor sample ≡ Done) where
+    past_lent : draw_answer book shelf anchor sample ≡ walk_answer book shelf anchor
+    unfolding draw_answer walk_answer
+    past_lent = ap (λ (x : Result (Unit {0}) DrawError). and_then x (walk_answer book shelf anchor)) lent
+
+    pub drawn_wrong : (error : DrawError) → walk_answer book shelf anchor ≡ Err error → drawn book shelf anchor sample ≡ Err error
+    drawn_wrong error e = drawn_by (Err error) (past_lent ∙ e)
+
+    pub left_wrong : (error : DrawError) → walk_answer book shelf anchor ≡ Err error → sample_after book shelf anchor sample ≡ sample
+    left_wrong error e = left_by (Err error) (past_lent ∙ e)
+
+    pub drawn_done : walk_answer book shelf anchor ≡ Done → drawn book shelf anchor sample ≡ Ok (commitment_of (sixteen_drawn book shelf anchor))
+    drawn_done e = drawn_by Done (past_lent ∙ e)
+
+    pub left_done : walk_answer book shelf anchor ≡ Done → sample_after book shelf anchor sample ≡ written (sixteen_drawn book shelf anchor)
+    left_done e = left_by Done (past_lent ∙ e)
+
+pub formed : (book anchor sample : List ℕ) → lent_answer book anchor sample ≡ Done → (48 + 145 * count_in book ≤ length book) × (count_in book ≤ 65536)
+formed book anchor sample e = formed_long book (lent_done book anchor sample e).formed
+
+pub lent_room : (book anchor sample : List ℕ) → lent_answer book anchor sample ≡ Done → length sample ≡ 1024
+lent_room book anchor sample e = (lent_done book anchor sample e).sample1024
+
+-- ---- the sixteen, handed on
+
+module _ (book shelf anchor sample pairs : List ℕ) (held : ℕ) (all : held ≡ 16) (kept : pieces 64 held pairs ≡ sixteen_drawn book shelf anchor)
+    (room : length pairs ≡ 1024) (lent : length sample ≡ 1024) where
+  sixteen : pieces 64 16 pairs ≡ sixteen_drawn book shelf anchor
+  sixteen = rw all at kept
+
+  pub committed_is : committed pairs held sample ≡ commitment_of (sixteen_drawn book shelf anchor)
+  committed_is = (sixteen_out pairs held sample all room lent).0 ∙ ap commitment_of sixteen
+
+  pub written_is : written_over pairs held sample ≡ written (sixteen_drawn book shelf anchor)
+  written_is = (sixteen_out pairs held sample all room lent).1 ∙ ap written sixteen
+
+pub ruleset hands = (drawn_lent, left_lent, drawn_wrong, left_wrong, drawn_done, left_done, formed, lent_room, committed_is, written_is)

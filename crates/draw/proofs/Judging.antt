@@ -9,35 +9,28 @@ use lib.ListN.{length, get_or, drop}
 use lib.Seq.{drop-cons}
 use borrow.Author.Tests.{lt-ltb, le-ltb}
 use Rattle.octets.specs.Order.{byte_order}
-use Rattle.octets.specs.declared.order.Order.{Order}
-use Rattle.octets.specs.declared.order.Order.TheVariants as Ordered
+use Rattle.std.specs.declared.cmp.Ordering.{Ordering}
+use Rattle.std.specs.declared.cmp.Ordering.TheVariants as Ordered
 use Rattle.octets.proofs.Ordered.{order_self, same_equal}
-use Rattle.draw.specs.declared.answer.DrawAnswer.{DrawAnswer}
-use Rattle.draw.specs.declared.answer.DrawAnswer.TheVariants.{Done, NotWellFormed, Overfull, WrongLength, ShelfEnds, TooLong, Mismatch, Left, TooFew}
-use Rattle.draw.specs.Answer.{draw_number, draw_place, of_cell, and_then}
+use Rattle.std.specs.Prelude.{Result, Ok, Err}
+use Rattle.draw.specs.declared.answer.DrawError.{DrawError}
+use Rattle.draw.specs.Answer.{Done, draw_number, draw_place, of_cell, and_then}
 use Rattle.shelf.specs.Cell.{own_address, size_in, cell_in}
 use Rattle.shelf.specs.Read.{matching, cell_answer}
 use Rattle.draw.specs.Shelf.{shelf_answer}
 use Rattle.draw.specs.Theorems.{shelf_from, SoundCell, SoundBefore, WrongCell, no_length, too_long, cut_short, mismatch}
 
 -- an answer's number and place
-abbrev pub Says : DrawAnswer → ℕ → ℕ → Type 0
+abbrev pub Says : Result (Unit {0}) DrawError → ℕ → ℕ → Type 0
 Says a n p = (draw_number a ≡ n) × (draw_place a ≡ p)
 
-pub says_as : {a b : DrawAnswer} {n p : ℕ} → a ≡ b → Says b n p → Says a n p
+pub says_as : {a b : Result (Unit {0}) DrawError} {n p : ℕ} → a ≡ b → Says b n p → Says a n p
 says_as e s = (ap draw_number e ∙ s.0, ap draw_place e ∙ s.1)
 
 -- behind a refusal nothing is asked
-pub stops : (a b : DrawAnswer) → 10 ≤ draw_number a → and_then a b ≡ a
-stops Done b h = absurd (omega arith)
-stops NotWellFormed b h = refl
-stops Overfull b h = refl
-stops WrongLength b h = refl
-stops (ShelfEnds k) b h = refl
-stops (TooLong k) b h = refl
-stops (Mismatch k) b h = refl
-stops Left b h = refl
-stops TooFew b h = refl
+pub stops : (a b : Result (Unit {0}) DrawError) → 10 ≤ draw_number a → and_then a b ≡ a
+stops (Ok value) b h = absurd (omega arith)
+stops (Err error) b h = refl
 
 -- ---- one cell
 
@@ -45,7 +38,7 @@ module _ (place : ℕ) (address rest : List ℕ) where
   sound_answer : SoundCell address rest → of_cell place (cell_answer address rest) ≡ Done
   unfolding cell_answer
   sound_answer w =
-      let same : byte_order (own_address (cell_in rest)) address ≡ Ordered.Same = ap (λ (a : List ℕ). byte_order a address) w.own ∙ order_self address in
+      let same : byte_order (own_address (cell_in rest)) address ≡ Ordered.Equal = ap (λ (a : List ℕ). byte_order a address) w.own ∙ order_self address in
       rw (le-ltb (length rest) 10 w.headed, le-ltb 4096 (size_in rest) w.bounded, le-ltb (length rest) (10 + size_in rest) w.whole, same)
 
   wrong_answer : (n : ℕ) → WrongCell address rest n → Says (of_cell place (cell_answer address rest)) n place
@@ -57,10 +50,10 @@ module _ (place : ℕ) (address rest : List ℕ) where
   wrong_answer n (mismatch h k j other) =
       rw (le-ltb (length rest) 10 h, le-ltb 4096 (size_in rest) k, le-ltb (length rest) (10 + size_in rest) j) (go (byte_order (own_address (cell_in rest)) address) refl)
     where
-      go : (o : Order) → byte_order (own_address (cell_in rest)) address ≡ o → Says (of_cell place (matching o)) 24 place
+      go : (o : Ordering) → byte_order (own_address (cell_in rest)) address ≡ o → Says (of_cell place (matching o)) 24 place
       go Ordered.Less e = (refl, refl)
-      go Ordered.Same e = absurd (other (same_equal _ _ e))
-      go Ordered.More e = (refl, refl)
+      go Ordered.Equal e = absurd (other (same_equal _ _ e))
+      go Ordered.Greater e = (refl, refl)
 
 pub wrong_refused : (address rest : List ℕ) (n : ℕ) → WrongCell address rest n → 10 ≤ n
 wrong_refused address rest n (no_length h) = omega arith
@@ -108,7 +101,7 @@ module _ (addresses : List (List ℕ)) (shelf : List ℕ) where
   past (suc i) h sound =
       past i (omega arith) (λ j k. sound j (omega arith))
       ∙ turn i h
-      ∙ ap (λ (a : DrawAnswer). and_then a (shelf_answer (suc i) (drop (suc i) addresses) (shelf_from (suc i) shelf)))
+      ∙ ap (λ (a : Result (Unit {0}) DrawError). and_then a (shelf_answer (suc i) (drop (suc i) addresses) (shelf_from (suc i) shelf)))
       (sound_answer i (get_or addresses i []) (shelf_from i shelf) (sound i (omega arith)))
 
   pub shelf_wrong : (n i : ℕ) → i < length addresses → SoundBefore addresses shelf i → WrongCell (get_or addresses i []) (shelf_from i shelf) n

@@ -1,47 +1,31 @@
 -- What a shelf holds where nothing is wrong with it, and two such shelves beside one book.
-use mathlib.Core.Bool.{true}
-use mathlib.Core.Path.{◌≡◌, refl, sym, ap, ◌∙◌}
+use mathlib.Core.Path.{◌≡◌, refl, sym, ◌∙◌}
 use mathlib.Core.Logic.{◌⊎◌, inl}
 use mathlib.Core.List.{List, [], ◌∷◌, map}
-use Prim.Native.Nat.{ℕ, suc, ◌≤◌}
-use native.Mathlib.Omega.{arith}
+use Prim.Native.Nat.{ℕ, suc}
 use lib.ListN.{length}
 use Rattle.keccak.specs.Collision.{Collision}
 use Rattle.merkle.proofs.Collide.{Among, among_left, among_right, ◌>>=◌}
-use Rattle.shelf.specs.declared.answer.CellAnswer.{CellAnswer}
-use Rattle.shelf.specs.declared.answer.CellAnswer.TheVariants as Cells
+use Rattle.std.specs.Prelude.{Result, Ok, Err}
+use Rattle.shelf.specs.declared.cell.CellError.{CellError}
 use Rattle.shelf.specs.Cell.{own_address, pair_of, cell_hashed, cell_in}
-use Rattle.shelf.specs.Read.{is_sound, cell_answer}
+use Rattle.shelf.specs.Read.{cell_answer}
 use Rattle.shelf.proofs.Pairs.{span_length, pair_same}
 use Rattle.shelf.proofs.Cells.{Whole, cell_sound}
-use Rattle.draw.specs.declared.answer.DrawAnswer.{DrawAnswer}
-use Rattle.draw.specs.declared.answer.DrawAnswer.TheVariants.{Done, NotWellFormed, Overfull, WrongLength, ShelfEnds, TooLong, Mismatch, Left, TooFew}
-use Rattle.draw.specs.Answer.{draw_number, of_cell, and_then}
+use Rattle.draw.specs.declared.answer.DrawError.{DrawError}
+use Rattle.draw.specs.Answer.{Done, of_cell, and_then}
 use Rattle.draw.specs.Shelf.{cells_hashed, behind, cells_on, shelf_answer}
 
 -- ---- nothing refused
 
--- another answer is not Done
-pub not_done : {A : Type 0} (a : DrawAnswer) → 10 ≤ draw_number a → a ≡ Done → A
-not_done a h e = absurd (omega (arith, ap draw_number e))
-
-pub both_done : (a b : DrawAnswer) → and_then a b ≡ Done → (a ≡ Done) × (b ≡ Done)
-both_done Done b e = (refl, e)
-both_done NotWellFormed b e = not_done NotWellFormed (omega arith) e
-both_done Overfull b e = not_done Overfull (omega arith) e
-both_done WrongLength b e = not_done WrongLength (omega arith) e
-both_done (ShelfEnds k) b e = not_done (ShelfEnds k) (omega arith) e
-both_done (TooLong k) b e = not_done (TooLong k) (omega arith) e
-both_done (Mismatch k) b e = not_done (Mismatch k) (omega arith) e
-both_done Left b e = not_done Left (omega arith) e
-both_done TooFew b e = not_done TooFew (omega arith) e
+pub both_done : (a b : Result (Unit {0}) DrawError) → and_then a b ≡ Done → (a ≡ Done) × (b ≡ Done)
+both_done (Ok value) b e = (refl, e)
+both_done (Err error) b e = cc
 
 -- a cell's answer is Done where nothing is wrong with it
-pub told_sound : (place : ℕ) (a : CellAnswer) → of_cell place a ≡ Done → is_sound a ≡ true
-told_sound place Cells.Sound e = refl
-told_sound place Cells.ShelfEnds e = not_done (ShelfEnds place) (omega arith) e
-told_sound place Cells.TooLong e = not_done (TooLong place) (omega arith) e
-told_sound place Cells.Mismatch e = not_done (Mismatch place) (omega arith) e
+told_sound : (place : ℕ) (a : Result (Unit {0}) CellError) → of_cell place a ≡ Done → a ≡ Ok tt
+told_sound place (Ok value) e = refl
+told_sound place (Err error) e = cc
 
 pub cell_done : (place : ℕ) (address s : List ℕ) → of_cell place (cell_answer address s) ≡ Done → Whole address s
 cell_done place address s e = cell_sound address s (told_sound place (cell_answer address s) e)

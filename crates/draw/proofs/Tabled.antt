@@ -13,9 +13,10 @@ use Rattle.octets.specs.Bytes.{Bytes}
 use Rattle.book.specs.Layout.{state_in, count_in, WellFormed}
 use Rattle.wellformed.specs.Check.{well_formed}
 use Rattle.wellformed.proofs.Tested.{said as untested, heard as tested}
-use Rattle.draw.specs.declared.answer.DrawAnswer.{DrawAnswer}
-use Rattle.draw.specs.declared.answer.DrawAnswer.TheVariants.{Done, NotWellFormed, Overfull, WrongLength, Left, TooFew}
-use Rattle.draw.specs.Answer.{draw_number, and_then}
+use Rattle.std.specs.Prelude.{Result, Err}
+use Rattle.draw.specs.declared.answer.DrawError.{DrawError}
+use Rattle.draw.specs.declared.answer.DrawError.TheVariants.{NotWellFormed, Overfull, WrongLength, Left, TooFew}
+use Rattle.draw.specs.Answer.{Done, draw_number, and_then}
 use Rattle.draw.specs.Shelf.{shelf_answer}
 use Rattle.draw.specs.Draw.{addresses_in, pairs_drawn, sixteen_drawn, lent_answer, draw_answer}
 use Rattle.draw.specs.Theorems.{shelf_from, SixteenAmong, Ready, AllSound, DrawTable, not_well_formed, already_overfull, wrong_length, wrong_cell, bytes_left, too_few, done}
@@ -26,7 +27,7 @@ use Rattle.draw.proofs.Judging.{Says, says_as, stops, wrong_refused, past, shelf
 -- ---- before the shelf
 
 module _ (book anchor sample : List ℕ) where
-  lent_ill : Bytes book → (WellFormed book → ⊥) → lent_answer book anchor sample ≡ NotWellFormed
+  lent_ill : Bytes book → (WellFormed book → ⊥) → lent_answer book anchor sample ≡ Err NotWellFormed
   unfolding lent_answer
   lent_ill byte never = rw (go (well_formed book) refl)
     where
@@ -34,19 +35,19 @@ module _ (book anchor sample : List ℕ) where
       go true e = absurd (never (untested book byte e))
       go false e = refl
 
-  lent_overfull : WellFormed book → state_in book ≡ 1 → lent_answer book anchor sample ≡ Overfull
+  lent_overfull : WellFormed book → state_in book ≡ 1 → lent_answer book anchor sample ≡ Err Overfull
   unfolding lent_answer
   lent_overfull w e = rw (tested book w, eq-eqb (state_in book) 1 e)
 
   not_one : state_in book ≡ 0 → eqb (state_in book) 1 ≡ false
   not_one z = ne_eqb (state_in book) 1 (λ e. omega (arith, z, e))
 
-  lent_length : WellFormed book → state_in book ≡ 0 → (length anchor ≡ 32 → ⊥) ⊎ (length sample ≡ 1024 → ⊥) → lent_answer book anchor sample ≡ WrongLength
+  lent_length : WellFormed book → state_in book ≡ 0 → (length anchor ≡ 32 → ⊥) ⊎ (length sample ≡ 1024 → ⊥) → lent_answer book anchor sample ≡ Err WrongLength
   unfolding lent_answer
   lent_length w z h = rw (tested book w, not_one z) (go h (eqb (length anchor) 32) refl)
     where
       go : (length anchor ≡ 32 → ⊥) ⊎ (length sample ≡ 1024 → ⊥) → (b : Bool) → eqb (length anchor) 32 ≡ b
-          → cond (b && eqb (length sample) 1024) Done WrongLength ≡ WrongLength
+          → cond (b && eqb (length sample) 1024) Done (Err WrongLength) ≡ Err WrongLength
       go (inl other) true e = absurd (false≢true (sym (ne_eqb (length anchor) 32 other) ∙ e))
       go (inr other) true e = rw (ne_eqb (length sample) 1024 other)
       go h false e = refl
@@ -56,23 +57,23 @@ module _ (book anchor sample : List ℕ) where
   lent_ready r = rw (tested book r.formed, not_one r.good, eq-eqb (length anchor) 32 r.anchored, eq-eqb (length sample) 1024 r.output)
 
 module _ (book shelf anchor sample : List ℕ) where
-  abbrev few : DrawAnswer
-  few = cond (ltb (length (sixteen_drawn book shelf anchor)) 16) TooFew Done
+  abbrev few : Result (Unit {0}) DrawError
+  few = cond (ltb (length (sixteen_drawn book shelf anchor)) 16) (Err TooFew) Done
 
-  at_once : (a : DrawAnswer) → 10 ≤ draw_number a → lent_answer book anchor sample ≡ a → draw_answer book shelf anchor sample ≡ a
+  at_once : (a : Result (Unit {0}) DrawError) → 10 ≤ draw_number a → lent_answer book anchor sample ≡ a → draw_answer book shelf anchor sample ≡ a
   unfolding draw_answer
   at_once a h e =
       let later = and_then (shelf_answer 0 (addresses_in book) shelf) few in
-      ap (λ (x : DrawAnswer). and_then x later) e ∙ stops a later h
+      ap (λ (x : Result (Unit {0}) DrawError). and_then x later) e ∙ stops a later h
 
   past_lent : Ready book anchor sample → draw_answer book shelf anchor sample ≡ and_then (shelf_answer 0 (addresses_in book) shelf) few
   unfolding draw_answer
-  past_lent r = ap (λ (x : DrawAnswer). and_then x (and_then (shelf_answer 0 (addresses_in book) shelf) few)) (lent_ready book anchor sample r)
+  past_lent r = ap (λ (x : Result (Unit {0}) DrawError). and_then x (and_then (shelf_answer 0 (addresses_in book) shelf) few)) (lent_ready book anchor sample r)
 
   -- ---- behind the last cell
 
   module _ (h : AllSound book shelf anchor sample) where
-    ending : shelf_answer 0 (addresses_in book) shelf ≡ cond (eqb (length (shelf_from (count_in book) shelf)) 0) Done Left
+    ending : shelf_answer 0 (addresses_in book) shelf ≡ cond (eqb (length (shelf_from (count_in book) shelf)) 0) Done (Err Left)
     unfolding shelf_answer
     ending =
         let most : count_in book ≤ length (addresses_in book) = omega (arith, addresses_length book) in
@@ -80,15 +81,15 @@ module _ (book shelf anchor sample : List ℕ) where
         past (addresses_in book) shelf (count_in book) most h.sound
         ∙ ap (λ (l : List (List ℕ)). shelf_answer (count_in book) l (shelf_from (count_in book) shelf)) none
 
-    left_answer : 0 < length (shelf_from (count_in book) shelf) → draw_answer book shelf anchor sample ≡ Left
+    left_answer : 0 < length (shelf_from (count_in book) shelf) → draw_answer book shelf anchor sample ≡ Err Left
     left_answer k =
         let left = ne_eqb (length (shelf_from (count_in book) shelf)) 0 (λ e. omega (arith, k, e)) in
-        past_lent h.ready ∙ ap (λ (x : DrawAnswer). and_then x few) (ending ∙ ap (λ (b : Bool). cond b Done Left) left)
+        past_lent h.ready ∙ ap (λ (x : Result (Unit {0}) DrawError). and_then x few) (ending ∙ ap (λ (b : Bool). cond b Done (Err Left)) left)
 
     full_answer : length (shelf_from (count_in book) shelf) ≡ 0 → draw_answer book shelf anchor sample ≡ few
     full_answer e =
         let none = eq-eqb (length (shelf_from (count_in book) shelf)) 0 e in
-        past_lent h.ready ∙ ap (λ (x : DrawAnswer). and_then x few) (ending ∙ ap (λ (b : Bool). cond b Done Left) none)
+        past_lent h.ready ∙ ap (λ (x : Result (Unit {0}) DrawError). and_then x few) (ending ∙ ap (λ (b : Bool). cond b Done (Err Left)) none)
 
   enough : SixteenAmong (pairs_drawn book shelf anchor) → 16 ≤ length (sixteen_drawn book shelf anchor)
   unfolding sixteen_drawn
@@ -116,9 +117,9 @@ module _ (book shelf anchor sample : List ℕ) where
 
   module _ (byte : Bytes book) where
     from_table : (n p : ℕ) → DrawTable book shelf anchor sample n p → Says (draw_answer book shelf anchor sample) n p
-    from_table n p (not_well_formed u) = says_as (at_once NotWellFormed (omega arith) (lent_ill book anchor sample byte u)) (refl, refl)
-    from_table n p (already_overfull w e) = says_as (at_once Overfull (omega arith) (lent_overfull book anchor sample w e)) (refl, refl)
-    from_table n p (wrong_length w z h) = says_as (at_once WrongLength (omega arith) (lent_length book anchor sample w z h)) (refl, refl)
+    from_table n p (not_well_formed u) = says_as (at_once (Err NotWellFormed) (omega arith) (lent_ill book anchor sample byte u)) (refl, refl)
+    from_table n p (already_overfull w e) = says_as (at_once (Err Overfull) (omega arith) (lent_overfull book anchor sample w e)) (refl, refl)
+    from_table n p (wrong_length w z h) = says_as (at_once (Err WrongLength) (omega arith) (lent_length book anchor sample w z h)) (refl, refl)
     from_table n p (wrong_cell m i r h sound w) =
         let a = shelf_answer 0 (addresses_in book) shelf in
         let says = shelf_wrong (addresses_in book) shelf m i (omega (arith, h, addresses_length book)) sound w in
@@ -126,9 +127,9 @@ module _ (book shelf anchor sample : List ℕ) where
         says_as (past_lent r ∙ stops a few refused) says
     from_table n p (bytes_left h k) = says_as (left_answer h k) (refl, refl)
     from_table n p (too_few h e never) =
-        says_as (full_answer h e ∙ ap (λ (b : Bool). cond b TooFew Done) (lt-ltb (length (sixteen_drawn book shelf anchor)) 16 (fewer never))) (refl, refl)
+        says_as (full_answer h e ∙ ap (λ (b : Bool). cond b (Err TooFew) Done) (lt-ltb (length (sixteen_drawn book shelf anchor)) 16 (fewer never))) (refl, refl)
     from_table n p (done h e s) =
-        says_as (full_answer h e ∙ ap (λ (b : Bool). cond b TooFew Done) (le-ltb (length (sixteen_drawn book shelf anchor)) 16 (enough s))) (refl, refl)
+        says_as (full_answer h e ∙ ap (λ (b : Bool). cond b (Err TooFew) Done) (le-ltb (length (sixteen_drawn book shelf anchor)) 16 (enough s))) (refl, refl)
 
     -- ---- every input has a row
 

@@ -6,7 +6,7 @@ use Prim.Native.Nat.{ℕ}
 use lib.ListN.{length}
 use Rattle.keccak.specs.Collision.{Collision}
 use Rattle.merkle.proofs.Collide.{Among, among_left, among_right, ◌>>=◌}
-use Rattle.draw.specs.declared.answer.DrawAnswer.TheVariants.{Done}
+use Rattle.draw.specs.Answer.{Done}
 use Rattle.shelf.specs.Cell.{Cell, own_address, pair_of}
 use Rattle.draw.specs.Shelf.{cells_hashed, cells_on, shelf_answer}
 use Rattle.sample.specs.Sample.{sixteen, written, commitment_of, commitment_hashed}

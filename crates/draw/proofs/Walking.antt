@@ -5,8 +5,8 @@ use mathlib.Core.List.{List, [], ◌∷◌, map}
 use Prim.Native.Nat.{ℕ, suc, ◌+◌, ◌-◌, ◌*◌, ◌≤◌, ◌<◌}
 use native.Mathlib.Numerals.{add-one}
 use native.Mathlib.Omega.{arith}
-use lib.ListN.{length, take, drop, length-drop, drop_of_length-le, get_or-map}
-use lib.Seq.{take_all, drop-drop, drop-cons}
+use lib.ListN.{length, take, drop, drop_of_length-le, get_or-map}
+use lib.Seq.{take_all, drop-cons}
 use Rattle.records.specs.Record.{address_in}
 use Rattle.book.specs.Layout.{capacity_in, count_in, records_in, record_in}
 use Rattle.wellformed.specs.Check.{labelled, sized, well_formed}
@@ -69,14 +69,11 @@ ahead_last anchor held n i s h k =
     let e : n - i ≡ 0 = omega arith in
     ap (λ (j : ℕ). ahead_of anchor held j s) e ∙ take_all 16 held k
 
--- ---- what lies ahead in the bytes
+-- ---- what lies behind a cell
 
-pub rest_is : (at : ℕ) (shelf : List ℕ) → take (length shelf - at) (drop at shelf) ≡ drop at shelf
-rest_is at shelf = take_all (length shelf - at) (drop at shelf) (omega (arith, length-drop at shelf))
-
-pub behind_at : (at size : ℕ) (shelf : List ℕ) → size ≡ 10 + size_in (drop at shelf) → behind (drop at shelf) ≡ drop (at + size) shelf
+pub behind_is : (size : ℕ) (rest : List ℕ) → size ≡ 10 + size_in rest → behind rest ≡ drop size rest
 unfolding behind
-behind_at at size shelf e = drop-drop (10 + size_in (drop at shelf)) at shelf ∙ ap (λ (n : ℕ). drop (at + n) shelf) (sym e)
+behind_is size rest e = rw e
 
 -- ---- what being well formed gives
 

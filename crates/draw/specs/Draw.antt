@@ -1,12 +1,11 @@
 -- A draw from a book, a shelf, an anchor and a buffer for the sample: what it answers and hands back, on every input.
-use Rattle.std.specs.Prelude.{cond, ◌&&◌, List, ◌++◌, map, ℕ, eqb, ltb, length, replicate}
+use Rattle.std.specs.Prelude.{Result, Ok, Err, cond, ◌&&◌, List, ◌++◌, map, ℕ, eqb, ltb, length}
 use Rattle.records.specs.Record.{address_in}
 use Rattle.book.specs.Layout.{state_in, count_in, records_in}
 use Rattle.wellformed.specs.Check.{well_formed}
-use Rattle.draw.specs.declared.answer.DrawAnswer.{DrawAnswer}
-use Rattle.draw.specs.declared.answer.DrawAnswer.TheVariants.{Done, NotWellFormed, Overfull, WrongLength, TooFew}
-use Rattle.draw.specs.declared.answer.DrawResult.{DrawResult}
-use Rattle.draw.specs.Answer.{and_then, only_done}
+use Rattle.draw.specs.declared.answer.DrawError.{DrawError}
+use Rattle.draw.specs.declared.answer.DrawError.TheVariants.{NotWellFormed, Overfull, WrongLength, TooFew}
+use Rattle.draw.specs.Answer.{Done, and_then, only_done}
 use Rattle.shelf.specs.Cell.{Cell, pair_of}
 use Rattle.draw.specs.Shelf.{cells_hashed, cells_on, shelf_answer}
 use Rattle.sample.specs.Sample.{sixteen, written, commitment_of, commitment_hashed}
@@ -26,24 +25,23 @@ unfoldable pub sixteen_drawn : List ℕ → List ℕ → List ℕ → List (List
 sixteen_drawn book shelf anchor = sixteen (pairs_drawn book shelf anchor)
 
 -- "Draw 13, 14, 10 (anchor, output), .."
-unfoldable pub lent_answer : List ℕ → List ℕ → List ℕ → DrawAnswer
+unfoldable pub lent_answer : List ℕ → List ℕ → List ℕ → Result (Unit {0}) DrawError
 lent_answer book anchor sample =
     cond (well_formed book)
-    (cond (eqb (state_in book) 1) Overfull
-    (cond (eqb (length anchor) 32 && eqb (length sample) 1024) Done WrongLength))
-    NotWellFormed
+    (cond (eqb (state_in book) 1) (Err Overfull)
+    (cond (eqb (length anchor) 32 && eqb (length sample) 1024) Done (Err WrongLength)))
+    (Err NotWellFormed)
 
 -- ".. then cell by cell .., then 25, 26"
-unfoldable pub draw_answer : List ℕ → List ℕ → List ℕ → List ℕ → DrawAnswer
+unfoldable pub draw_answer : List ℕ → List ℕ → List ℕ → List ℕ → Result (Unit {0}) DrawError
 draw_answer book shelf anchor sample =
     and_then (lent_answer book anchor sample)
     (and_then (shelf_answer 0 (addresses_in book) shelf)
-    (cond (ltb (length (sixteen_drawn book shelf anchor)) 16) TooFew Done))
+    (cond (ltb (length (sixteen_drawn book shelf anchor)) 16) (Err TooFew) Done))
 
-unfoldable pub drawn : List ℕ → List ℕ → List ℕ → List ℕ → DrawResult
-drawn book shelf anchor sample =
-    let answer = draw_answer book shelf anchor sample in
-    record { answer = answer; commitment = only_done answer (commitment_of (sixteen_drawn book shelf anchor)) (replicate 32 0) }
+-- the commitment, where nothing is refused
+unfoldable pub drawn : List ℕ → List ℕ → List ℕ → List ℕ → Result (List ℕ) DrawError
+drawn book shelf anchor sample = and_then (draw_answer book shelf anchor sample) (Ok (commitment_of (sixteen_drawn book shelf anchor)))
 
 -- the lent buffer afterwards
 unfoldable pub sample_after : List ℕ → List ℕ → List ℕ → List ℕ → List ℕ

@@ -4,8 +4,8 @@ use mathlib.Core.List.{List, [], ◌∷◌, ◌++◌, map, Memᴰ}
 use Rattle.octets.specs.Bytes.{Bytes}
 use Rattle.keccak.specs.Collision.{Collision}
 use Rattle.book.specs.Layout.{state_in, count_in, WellFormed}
-use Rattle.draw.specs.declared.answer.DrawAnswer.TheVariants.{Done}
-use Rattle.draw.specs.Answer.{draw_number, draw_place}
+use Rattle.answers.specs.Number.{digest_or_zeros}
+use Rattle.draw.specs.Answer.{Done, draw_number, draw_place}
 use Rattle.shelf.specs.Cell.{own_address, size_in, cell_in}
 use Rattle.draw.specs.Shelf.{behind}
 use Rattle.sample.specs.Sample.{gathered, sixteen, Ascending, SixteenSmallest}
@@ -121,7 +121,7 @@ abbrev pub OneAnchorOneHash : Type 0
 OneAnchorOneHash =
     (book shelf sample book' shelf' sample' anchor : List ℕ) → addresses_in book ≡ addresses_in book'
     → draw_answer book shelf anchor sample ≡ Done → draw_answer book' shelf' anchor sample' ≡ Done
-    → ((drawn book shelf anchor sample).commitment ≡ (drawn book' shelf' anchor sample').commitment)
+    → (digest_or_zeros (drawn book shelf anchor sample) ≡ digest_or_zeros (drawn book' shelf' anchor sample'))
     ⊎ Collision (draw_hashed book shelf anchor ++ draw_hashed book' shelf' anchor)
 
 -- Two draws with equal hashes, from any books, shelves and anchors, took the same sixteen pairs in the same order, and left the same
@@ -130,6 +130,6 @@ abbrev pub OneHashOneSample : Type 0
 OneHashOneSample =
     (book shelf anchor sample book' shelf' anchor' sample' : List ℕ)
     → draw_answer book shelf anchor sample ≡ Done → draw_answer book' shelf' anchor' sample' ≡ Done
-    → (drawn book shelf anchor sample).commitment ≡ (drawn book' shelf' anchor' sample').commitment
+    → digest_or_zeros (drawn book shelf anchor sample) ≡ digest_or_zeros (drawn book' shelf' anchor' sample')
     → ((sixteen_drawn book shelf anchor ≡ sixteen_drawn book' shelf' anchor') × (sample_after book shelf anchor sample ≡ sample_after book' shelf' anchor' sample'))
     ⊎ Collision (draw_hashed book shelf anchor ++ draw_hashed book' shelf' anchor')

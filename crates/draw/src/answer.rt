@@ -1,13 +1,15 @@
 // What a draw answers.
 ghost use Rattle.std.specs.Prelude.{◌≡◌};
-ghost use Rattle.draw.specs.Answer.{draw_number, draw_place, of_cell, is_done, refused};
+ghost use Rattle.draw.specs.declared.answer.DrawError.TheVariants.{NotWellFormed};
+ghost use Rattle.draw.specs.Answer.{error_number, error_place, draw_place, cell_error};
 
-use shelf::CellAnswer;
+use answers::Numbered;
+use shelf::CellError;
+use wellformed::check::BookError;
 
-// Answers about a cell of the shelf name the place of its record, from 0.
+// Errors about a cell of the shelf name the place of its record, from 0.
 #[derive(Clone, Copy)]
-pub enum DrawAnswer {
-    Done,
+pub enum DrawError {
     NotWellFormed,
     Overfull,
     WrongLength,
@@ -18,84 +20,62 @@ pub enum DrawAnswer {
     TooFew,
 }
 
-// The commitment is zeros where the answer is a refusal.
-#[derive(Drop)]
-pub struct DrawResult {
-    pub answer: DrawAnswer,
-    pub commitment: [u8; 32],
+impl Numbered for DrawError {
+    ghost number = { error_number };
+
+    fn number(&self) -> u32 {
+        match self {
+            DrawError::NotWellFormed => 13,
+            DrawError::Overfull => 14,
+            DrawError::WrongLength => 10,
+            DrawError::ShelfEnds(_) => 23,
+            DrawError::TooLong(_) => 12,
+            DrawError::Mismatch(_) => 24,
+            DrawError::Left => 25,
+            DrawError::TooFew => 26,
+        }
+    }
 }
 
-impl DrawAnswer {
-    // The number handed back for this answer.
-    pub fn number(self) -> u32
-        ensures { result ≡ draw_number self }
+impl From<BookError> for DrawError {
+    ghost from_gives = { λ error result. result ≡ NotWellFormed };
+
+    fn from(_error: BookError) -> DrawError {
+        DrawError::NotWellFormed
+    }
+}
+
+impl DrawError {
+    // What is wrong with a cell, beside the place of its record.
+    pub(crate) fn of_cell(error: CellError, place: u32) -> DrawError
+        ensures { result ≡ cell_error place error }
+    {
+        match error {
+            CellError::ShelfEnds => DrawError::ShelfEnds(place),
+            CellError::TooLong => DrawError::TooLong(place),
+            CellError::Mismatch => DrawError::Mismatch(place),
+        }
+    }
+
+    // The place that it names, 0 where it is not about a cell.
+    fn place(self) -> u32
+        ensures { result ≡ error_place self }
     {
         match self {
-            DrawAnswer::Done => 0,
-            DrawAnswer::NotWellFormed => 13,
-            DrawAnswer::Overfull => 14,
-            DrawAnswer::WrongLength => 10,
-            DrawAnswer::ShelfEnds(_) => 23,
-            DrawAnswer::TooLong(_) => 12,
-            DrawAnswer::Mismatch(_) => 24,
-            DrawAnswer::Left => 25,
-            DrawAnswer::TooFew => 26,
+            DrawError::ShelfEnds(place) => place,
+            DrawError::TooLong(place) => place,
+            DrawError::Mismatch(place) => place,
+            _ => 0,
         }
     }
+}
 
-    // The place handed back beside it, 0 where the answer is not about a cell.
-    pub fn place(self) -> u32
-        ensures { result ≡ draw_place self }
-    {
-        match self {
-            DrawAnswer::Done => 0,
-            DrawAnswer::NotWellFormed => 0,
-            DrawAnswer::Overfull => 0,
-            DrawAnswer::WrongLength => 0,
-            DrawAnswer::ShelfEnds(place) => place,
-            DrawAnswer::TooLong(place) => place,
-            DrawAnswer::Mismatch(place) => place,
-            DrawAnswer::Left => 0,
-            DrawAnswer::TooFew => 0,
-        }
-    }
-
-    // A cell's answer, beside the place of its record.
-    pub(crate) fn of_cell(answer: CellAnswer, place: u32) -> DrawAnswer
-        ensures { result ≡ of_cell place answer }
-    {
-        match answer {
-            CellAnswer::Sound => DrawAnswer::Done,
-            CellAnswer::ShelfEnds => DrawAnswer::ShelfEnds(place),
-            CellAnswer::TooLong => DrawAnswer::TooLong(place),
-            CellAnswer::Mismatch => DrawAnswer::Mismatch(place),
-        }
-    }
-
-    // Whether nothing was refused.
-    pub(crate) fn is_done(self) -> bool
-        ensures { result ≡ is_done self }
-    {
-        match self {
-            DrawAnswer::Done => true,
-            DrawAnswer::NotWellFormed => false,
-            DrawAnswer::Overfull => false,
-            DrawAnswer::WrongLength => false,
-            DrawAnswer::ShelfEnds(_) => false,
-            DrawAnswer::TooLong(_) => false,
-            DrawAnswer::Mismatch(_) => false,
-            DrawAnswer::Left => false,
-            DrawAnswer::TooFew => false,
-        }
-    }
-
-    // A refusal hands back zeros for a commitment.
-    pub(crate) fn refused(self) -> DrawResult
-        ensures { result ≡ refused self }
-    {
-        DrawResult {
-            answer: self,
-            commitment: [0u8; 32],
-        }
+// The place handed back beside the number, 0 where the answer is not about a cell.
+pub fn place(drawn: &Result<[u8; 32], DrawError>) -> u32
+    ensures { result ≡ draw_place drawn.now }
+{
+    match drawn {
+        Ok(_) => 0,
+        Err(error) => error.place(),
     }
 }

@@ -3,6 +3,7 @@
 
 mod answer;
 mod drawing;
+mod smallest;
 
-pub use answer::{DrawAnswer, DrawResult};
+pub use answer::{DrawError, place};
 pub use drawing::draw;

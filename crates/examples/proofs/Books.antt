@@ -9,7 +9,7 @@ use Rattle.octets.specs.Pieces.{pieces}
 use Rattle.nearness.specs.Bits.{bits, bits_of, leading_equal, shared_bits}
 use Rattle.postage.specs.Stamp.{slots_of}
 use Rattle.batches.specs.Batch.{records, fit, below, ordered, well_listed, find}
-use Rattle.postage.specs.Rules.{in_bucket, in_slots, is_owner, rules, checked}
+use Rattle.postage.specs.Rules.{in_bucket, in_slots, is_owner, judged, rules, checked}
 use Rattle.settling.specs.Rank.{higher}
 use Rattle.settling.specs.Book.{enter, inside, settle, offer}
 use Rattle.settling.specs.Answer.{holder, taken, against, outcome}
@@ -51,7 +51,7 @@ computed :
     (told (hearing fresh nine_and_seven) (seventeenth 0x40) ≡ (replicate 16 0, 16, 0, 0, 1, 8))
     × (told (hearing fresh eight_of_each) (seventeenth 0x80) ≡ (replicate 16 0, 16, 2, 0, 1, 8))
     × (told (hearing fresh in_bucket0) (seventeenth 0x00) ≡ (replicate 16 0, 16, 3, 1, 16, 0))
-unfolding ended hearing told batches address stamp slot_at slots nine_and_seven eight_of_each in_bucket0 fresh answers heard big big_at bytes_of byte_order bits bits_of leading_equal shared_bits slots_of pieces records fit below ordered well_listed find in_bucket in_slots is_owner rules checked higher enter inside settle offer holder taken against outcome near_of rank_order beats stamp_answer laid read write labelled sized levelled stands all_stand rises zeros well_formed entered offered
+unfolding ended hearing told batches address stamp slot_at slots nine_and_seven eight_of_each in_bucket0 fresh answers heard big big_at bytes_of byte_order bits bits_of leading_equal shared_bits slots_of pieces records fit below ordered well_listed find in_bucket in_slots is_owner judged rules checked higher enter inside settle offer holder taken against outcome near_of rank_order beats stamp_answer laid read write labelled sized levelled stands all_stand rises zeros well_formed entered offered
 computed = (refl, refl, refl)
 
 -- ---- what they tell
@@ -85,7 +85,7 @@ module _ (s : List Offer) (o : Offer) {l : List ℕ} {n a t d c : ℕ} (run : to
   count_after = ap (λ (x : Told). x.5) same
 
 pub settled_books : SettledBooks
-unfolding fresh heard big big_at bytes_of byte_order bits bits_of leading_equal shared_bits slots_of pieces records fit below ordered well_listed find in_bucket in_slots is_owner rules checked higher enter inside settle offer holder taken against outcome near_of rank_order beats stamp_answer laid read write labelled sized levelled stands all_stand rises zeros well_formed entered offered
+unfolding fresh heard big big_at bytes_of byte_order bits bits_of leading_equal shared_bits slots_of pieces records fit below ordered well_listed find in_bucket in_slots is_owner judged rules checked higher enter inside settle offer holder taken against outcome near_of rank_order beats stamp_answer laid read write labelled sized levelled stands all_stand rises zeros well_formed entered offered
 settled_books =
     record {
       nine_and_seven_kept = numbers nine_and_seven (seventeenth 0x40) computed.0;

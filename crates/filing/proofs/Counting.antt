@@ -2,7 +2,7 @@
 use mathlib.Core.Path.{◌≡◌, sym, ap, ◌∙◌, subst}
 use mathlib.Core.Bool.{Bool, true, false, cond, ◌&&◌}
 use mathlib.Core.List.{List, [], ◌∷◌}
-use Prim.Native.Nat.{ℕ, suc, ◌+◌, ◌-◌, ◌*◌, ◌/◌, ◌^◌, ◌≤◌, ◌<◌}
+use Prim.Native.Nat.{ℕ, suc, ◌+◌, ◌-◌, ◌/◌, ◌^◌, ◌≤◌, ◌<◌}
 use native.Mathlib.Numerals.{add-one}
 use native.Mathlib.Omega.{arith}
 use lib.Dec.{eqb, leb}
@@ -10,9 +10,7 @@ use borrow.Author.Tests.{eq-eqb}
 use lib.ListN.{length, get_or, take, drop, set}
 use lib.Seq.{length-take-le, take_all}
 use Rattle.octets.specs.Number.{big_at, bytes_of}
-use Rattle.octets.specs.Pieces.{pieces}
 use Rattle.octets.proofs.Numbers.{length_bytes_of}
-use Rattle.octets.proofs.Pieces.{length_pieces}
 use Rattle.nearness.proofs.Shared.{shared_bits_most}
 use Rattle.settling.specs.Rank.{Shape}
 use Rattle.settling.specs.Tally.{reach, tally, Counters, least_fit, least}
@@ -21,13 +19,12 @@ use Rattle.settling.proofs.Cases.{Limit, within, beyond, limit}
 use Rattle.settling.proofs.Least.{Descent, descent_end, least_end, least_fit_lem}
 use Rattle.records.specs.Record.{slot, near_of}
 use Rattle.book.specs.Layout.{depth_in, overlay_in, capacity_in, records_in}
-use Rattle.book.specs.Shape.{shape_in}
-use Rattle.book.proofs.Cuts.{record_there}
-use Rattle.book.proofs.Fields.{capacity_there}
+use Rattle.book.specs.Shape.{shape, shape_in}
+use Rattle.book.proofs.Fields.{header_overlay, header_capacity, header_capacity_in, header_byte}
 use Rattle.filing.specs.Whole.{whole}
 use Rattle.nearing.specs.Near.{near_in}
 use Rattle.filing.specs.Least.{least_in}
-use Rattle.filing.proofs.Wholeness.{whole_room, whole_count}
+use Rattle.filing.proofs.Wholeness.{whole_room}
 use Rattle.nearing.proofs.Nearing.{near_in_lem}
 
 pub near_most : (o : List ℕ) (k n : ℕ) → n ≡ near_of o k → n ≤ 16
@@ -51,42 +48,38 @@ tally_most B m (r ∷ l) = go (eqb (reach B r) m) (tally_most B m l)
     go true h = omega arith
     go false h = omega arith
 
-module _ (s : List ℕ) (count : ℕ) where
-  module _ (t : List ℕ) (i : ℕ) (inlist : i ≤ count) (w : Counters (shape_in s) t (take i (pieces 145 count (drop 48 s)))) where
-    -- no counter is above the number of records passed
-    pub counter_small : (n : ℕ) → n ≤ 16 → get_or t n 0 ≤ i
-    counter_small n h =
-        let l = pieces 145 count (drop 48 s) in
-        omega (arith, w.each n h, tally_most (shape_in s) n (take i l), length-take-le i l (omega (arith, length_pieces 145 count (drop 48 s))))
+-- in a book with a header a record's nearness is the counter that it raises
+pub reach_near : (s g : List ℕ) (n : ℕ) → 48 ≤ length s → length g ≡ 145 → n ≡ near_in s g → reach (shape_in s) g ≡ n
+reach_near s g n h k e =
+    let near : n ≡ near_of (overlay_in s) (slot g) = e ∙ near_in_lem s g h k in
+    reach_is (shape_in s) g ∙ omega (arith, near, near_most (overlay_in s) (slot g) n near)
 
-    pub counted_next : (n : ℕ) → i < count → n ≡ near_of (overlay_in s) (slot (take 145 (drop (48 + 145 * i) s))) → Counters (shape_in s) (set t n (get_or t n 0 + 1)) (take (i + 1) (pieces 145 count (drop 48 s)))
-    counted_next n h e =
-        let l = pieces 145 count (drop 48 s) in
-        let near : n ≡ near_of (overlay_in s) (slot (get_or l i [])) = e ∙ ap (λ (r : List ℕ). near_of (overlay_in s) (slot r)) (record_there s count i h) in
-        let same : reach (shape_in s) (get_or l i []) ≡ n = reach_is (shape_in s) (get_or l i []) ∙ omega (arith, near, near_most (overlay_in s) (slot (get_or l i [])) n near) in
-        rw (← same) (counters_next (shape_in s) [] t l i (omega (arith, h, length_pieces 145 count (drop 48 s))) w)
+module _ (s : List ℕ) (headed : 48 ≤ length s) (t : List ℕ) (l : List (List ℕ)) (i : ℕ) (w : Counters (shape_in s) t (take i l)) where
+  -- no counter is above the number of records passed
+  pub counter_small : i ≤ length l → (n : ℕ) → n ≤ 16 → get_or t n 0 ≤ i
+  counter_small h n k = omega (arith, w.each n k, tally_most (shape_in s) n (take i l), length-take-le i l h)
 
-    pub counted_all : count ≤ i → (own : ℕ) (a : List ℕ) → reach (shape_in s) a ≡ own → Counters (shape_in s) (set t own (get_or t own 0 + 1)) (a ∷ pieces 145 count (drop 48 s))
-    counted_all h own a e =
-        let l = pieces 145 count (drop 48 s) in
-        let all : take i l ≡ l = take_all i l (omega (arith, h, length_pieces 145 count (drop 48 s))) in
-        rw (← e) (counters_cons (shape_in s) t l a (rw all at w))
+  pub counted_next : (n : ℕ) → i < length l → length (get_or l i []) ≡ 145 → n ≡ near_in s (get_or l i []) → Counters (shape_in s) (set t n (get_or t n 0 + 1)) (take (i + 1) l)
+  counted_next n h k e = rw (← reach_near s (get_or l i []) n headed k e) (counters_next (shape_in s) [] t l i h w)
+
+  pub counted_all : length l ≤ i → (n : ℕ) (a : List ℕ) → length a ≡ 145 → n ≡ near_in s a → Counters (shape_in s) (set t n (get_or t n 0 + 1)) (a ∷ l)
+  counted_all h n a k e =
+      let all : take i l ≡ l = take_all i l h in
+      rw (← reach_near s a n headed k e) (counters_cons (shape_in s) t l a (rw all at w))
 
 pub least_in_lem : (s g : List ℕ) → length g ≡ 145 → whole s ≡ true → least_in s g ≡ least_fit (shape_in s) (16 - depth_in s) (suc (depth_in s)) (g ∷ records_in s)
 unfolding least_in
 least_in_lem s g k e = rw (eq-eqb (length g) 145 k, e)
 
 -- what the code of it reads and counts
-pub least_told : (s g : List ℕ) (n own capacity depth r : ℕ) (t : List ℕ) → length g ≡ 145 → whole s ≡ true → n ≡ big_at 4 s 44 → own ≡ near_in s g
-    → ((a : List ℕ) → reach (shape_in s) a ≡ own → Counters (shape_in s) t (a ∷ pieces 145 n (drop 48 s)))
-    → capacity ≡ big_at 4 s 40 → depth ≡ depth_in s → r ≡ least capacity (depth + 1) (drop (depth + 1) t) → r ≡ least_in s g
-least_told s g n own capacity depth r t size e en eo f ec ed er =
+pub least_told : (s g header : List ℕ) (l : List (List ℕ)) (capacity depth r : ℕ) (t : List ℕ) → length g ≡ 145 → whole s ≡ true → header ≡ take 48 s → l ≡ records_in s
+    → Counters (shape_in header) t (g ∷ l) → capacity ≡ big_at 4 header 40 → depth ≡ depth_in header → r ≡ least capacity (depth + 1) (drop (depth + 1) t) → r ≡ least_in s g
+least_told s g header l capacity depth r t size e head all w ec ed er =
     let headed : 48 ≤ length s = omega (arith, whole_room s e) in
-    let room : capacity ≡ capacity_in s = ec ∙ capacity_there s headed in
-    let near : own ≡ near_of (overlay_in s) (slot g) = eo ∙ near_in_lem s g headed size in
-    let reached : reach (shape_in s) g ≡ own = reach_is (shape_in s) g ∙ omega (arith, near, near_most (overlay_in s) (slot g) own near) in
-    let counters : Counters (shape_in s) t (g ∷ records_in s) = subst (λ (m : ℕ). Counters (shape_in s) t (g ∷ pieces 145 m (drop 48 s))) (whole_count s n en e) (f g reached) in
-    let next : depth + 1 ≡ suc (depth_in s) = ap (λ (m : ℕ). m + 1) ed ∙ add-one (depth_in s) in
+    let room : capacity ≡ capacity_in s = ec ∙ rw head (header_capacity s headed) in
+    let same : shape_in header ≡ shape_in s = ap shape_in head ∙ (λ i. shape (header_overlay s i) (header_capacity_in s i)) in
+    let counters : Counters (shape_in s) t (g ∷ records_in s) = subst (λ (b : Shape (List ℕ)). Counters b t (g ∷ records_in s)) same (rw all at w) in
+    let next : depth + 1 ≡ suc (depth_in s) = ap (λ (m : ℕ). m + 1) (ed ∙ rw head (header_byte s 7 (omega arith))) ∙ add-one (depth_in s) in
     er ∙ (λ i. least (room i) (next i) (drop (next i) t))
     ∙ least_fit_lem (shape_in s) (16 - depth_in s) (suc (depth_in s)) t (g ∷ records_in s) counters (omega arith)
     ∙ sym (least_in_lem s g size e)

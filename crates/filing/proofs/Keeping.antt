@@ -6,7 +6,7 @@ use Prim.Native.Nat.{ℕ, ◌+◌, ◌-◌, ◌*◌, ◌≤◌, min}
 use native.Mathlib.Omega.{arith}
 use lib.ListN.{length, take, drop, set, replicate, length-append, length-set, length-drop, length-replicate}
 use lib.Seq.{take_all}
-use Rattle.octets.specs.Number.{big_at, bytes_of}
+use Rattle.octets.specs.Number.{bytes_of}
 use Rattle.moving.specs.Moving.{over, placed}
 use Rattle.octets.specs.Pieces.{pieces}
 use Rattle.moving.proofs.Edits.{placed_fits, length_placed}
@@ -19,7 +19,6 @@ use Rattle.book.proofs.Cuts.{counted, each_sized}
 use Rattle.book.proofs.Laid.{Sized, length_laid}
 use Rattle.filing.specs.Keep.{inside_in, Packed, refilled, refiled, kept_bytes, staying}
 use Rattle.filing.specs.Whole.{whole}
-use Rattle.filing.proofs.Wholeness.{whole_count}
 
 -- the stores keep the length
 pub same_size : (t u v : List ℕ) (at n depth : ℕ) (w : List ℕ) → u ≡ placed t at (replicate n 0) → v ≡ placed (set u 7 depth) 44 w → length v ≡ length t
@@ -77,10 +76,9 @@ module _ (s : List ℕ) (count : ℕ) (same : count ≡ count_in s) (room : 48 +
 -- where the bytes hold what their header counts, and where not
 module _ (s : List ℕ) (i depth : ℕ) where
   module _ (e : whole s ≡ true) where
-    pub stays : (n m r : ℕ) → n ≡ big_at 4 s 44 → m ≡ min i n → r ≡ length (inside (shape_in s) depth (take m (records_in s))) → r ≡ staying s i depth
+    pub stays : (n m r : ℕ) → n ≡ count_in s → m ≡ min i n → r ≡ length (inside (shape_in s) depth (take m (records_in s))) → r ≡ staying s i depth
     unfolding staying
-    stays n m r en em er =
-        rw e (er ∙ ap (λ (l : List (List ℕ)). length (inside (shape_in s) depth l)) (ap (λ (k : ℕ). take k (records_in s)) em ∙ front_of s i n (whole_count s n en e)))
+    stays n m r en em er = rw e (er ∙ ap (λ (l : List (List ℕ)). length (inside (shape_in s) depth l)) (ap (λ (k : ℕ). take k (records_in s)) em ∙ front_of s i n en))
 
     pub kept_bytes_lem : refiled s depth ≡ kept_bytes s depth
     unfolding kept_bytes

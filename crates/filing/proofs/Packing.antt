@@ -16,6 +16,8 @@ use Rattle.settling.proofs.Places.{inside_next_in, inside_next_out}
 use Rattle.records.specs.Record.{slot, near_of}
 use Rattle.book.specs.Layout.{overlay_in, laid}
 use Rattle.book.specs.Shape.{shape_in}
+use Rattle.nearing.specs.Near.{near_in}
+use Rattle.nearing.proofs.Nearing.{near_in_lem}
 use Rattle.filing.specs.Keep.{inside_in, Packed}
 use Rattle.book.proofs.Laid.{laid_nil, laid_one, laid_append}
 use Rattle.book.proofs.Cuts.{record_there}
@@ -50,7 +52,7 @@ module _ (was : List ℕ) (count depth : ℕ) (room : 48 + 145 * count ≤ lengt
       overlay_of : (t : List ℕ) → overlay_in t ≡ drop 8 (take 40 (take 48 t))
       overlay_of t = sym (part_of_take 8 32 t) ∙ ap (drop 8) (sym (take-take 40 48 t (omega arith)))
 
-  module _ (inlist : i < count) (n : ℕ) (near : n ≡ near_of (overlay_in s) (slot (take 145 (drop (48 + 145 * i) s)))) where
+  module _ (inlist : i < count) (n : ℕ) (near : n ≡ near_in s (take 145 (drop (48 + 145 * i) s))) where
     records : List (List ℕ)
     records = pieces 145 count (drop 48 was)
 
@@ -63,7 +65,10 @@ module _ (was : List ℕ) (count depth : ℕ) (room : 48 + 145 * count ≤ lengt
     in_records = omega (arith, inlist, length_pieces 145 count (drop 48 was))
 
     near_there : n ≡ near_of (overlay_in was) (slot (get_or records i []))
-    near_there = near ∙ (λ k. near_of (same_overlay k) (slot (there k)))
+    near_there =
+        let size : length s ≡ length was = w.size in
+        near ∙ near_in_lem s (take 145 (drop (48 + 145 * i) s)) (omega arith) (part_length s (48 + 145 * i) 145 (omega arith))
+        ∙ (λ k. near_of (same_overlay k) (slot (there k)))
 
     yet_next : drop (48 + 145 * (i + 1)) s ≡ drop (48 + 145 * (i + 1)) was
     yet_next =

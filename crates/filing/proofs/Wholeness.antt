@@ -7,10 +7,7 @@ use native.Mathlib.Omega.{arith}
 use lib.Dec.{leb}
 use lib.ListN.{length}
 use borrow.Author.Tests.{le-leb, lt-leb, leb-true}
-use Rattle.octets.specs.Number.{big_at}
-use Rattle.settling.proofs.Cases.{Limit, within, beyond, limit}
 use Rattle.book.specs.Layout.{count_in}
-use Rattle.book.proofs.Fields.{count_there}
 use Rattle.book.proofs.Truths.{both, fails}
 use Rattle.filing.specs.Whole.{whole}
 
@@ -28,23 +25,12 @@ module _ (s : List ℕ) where
   pub whole_here : count_in s ≤ 65536 → 48 + 145 * count_in s ≤ length s → whole s ≡ true
   whole_here h k = whole_is ∙ rw (le-leb (count_in s) 65536 h, le-leb (48 + 145 * count_in s) (length s) k)
 
-  no_header : length s < 48 → whole s ≡ false
-  no_header h = whole_is ∙ fails (leb (count_in s) 65536) (leb (48 + 145 * count_in s) (length s)) (lt-leb (48 + 145 * count_in s) (length s) (omega arith))
+  -- where they do not
+  pub whole_not : count_in s ≤ 65536 → length s < 48 + 145 * count_in s → whole s ≡ false
+  whole_not h k = whole_is ∙ rw (le-leb (count_in s) 65536 h, lt-leb (48 + 145 * count_in s) (length s) k)
 
-  module _ (n : ℕ) (read : n ≡ big_at 4 s 44) where
-    pub whole_many : 65536 < n → false ≡ whole s
-    whole_many h = go (limit 48 (length s))
-      where
-        go : Limit 48 (length s) → false ≡ whole s
-        go (within k) = let e : n ≡ count_in s = read ∙ count_there s k in sym (whole_is ∙ rw (lt-leb (count_in s) 65536 (omega arith)))
-        go (beyond k) = sym (no_header k)
+  pub whole_many : 65536 < count_in s → whole s ≡ false
+  whole_many h = whole_is ∙ rw (lt-leb (count_in s) 65536 h)
 
-    pub whole_read : n ≤ 65536 → leb (48 + 145 * n) (length s) ≡ whole s
-    whole_read h = go (limit 48 (length s))
-      where
-        go : Limit 48 (length s) → leb (48 + 145 * n) (length s) ≡ whole s
-        go (within k) = let e : n ≡ count_in s = read ∙ count_there s k in sym (whole_is ∙ rw (← e, le-leb n 65536 h))
-        go (beyond k) = lt-leb (48 + 145 * n) (length s) (omega arith) ∙ sym (no_header k)
-
-    pub whole_count : whole s ≡ true → n ≡ count_in s
-    whole_count e = read ∙ count_there s (omega (arith, whole_room e))
+  pub whole_headless : length s < 48 → whole s ≡ false
+  whole_headless h = whole_is ∙ fails (leb (count_in s) 65536) (leb (48 + 145 * count_in s) (length s)) (lt-leb (48 + 145 * count_in s) (length s) (omega arith))

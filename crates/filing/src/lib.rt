@@ -3,5 +3,4 @@
 
 pub mod keep;
 pub mod least;
-mod near;
 mod whole;

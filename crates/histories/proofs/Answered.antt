@@ -15,20 +15,14 @@ use Rattle.book.specs.Layout.{state_in, WellFormed}
 use Rattle.book.specs.Lawful.{Lawful}
 use Rattle.book.specs.Book.{Book, in_state, read, write}
 use Rattle.reserve.specs.Stamps.{stamp_answer}
-use Rattle.reserve.specs.Offer.{Ended, shape_of, entered}
+use Rattle.reserve.specs.Offer.{shape_of, entered}
 use Rattle.histories.specs.Histories.{Offer, ByteOffer, after, answer}
 use Rattle.histories.specs.Theorems.{Table, not_well_formed, already_overfull, stamp_refused, settles, VeryRecordHeld}
 use Rattle.book.proofs.Soundness.{lawful_sound}
 use Rattle.book.proofs.Roundtrip.{read_good, read_lawful, write_read, read_write}
 use Rattle.reserve.proofs.Stamped.{stamp_fits}
-use Rattle.reserve.proofs.Ways.{Way, ill, burst, unstamped, enters, way, way_ill, way_overfull, way_stamp, way_enters}
+use Rattle.reserve.proofs.Ways.{number_after, bytes_after, Way, ill, burst, unstamped, enters, way, way_ill, way_overfull, way_stamp, way_enters}
 use Rattle.histories.proofs.Heard.{lawful_offer}
-
-abbrev number_after : Ended → ℕ
-number_after e = e.number
-
-abbrev bytes_after : Ended → List ℕ
-bytes_after e = e.bytes
 
 entered_number : (b : Book) (r : List ℕ) → (entered b r).number ≡ outcome (shape_of b) b.state r
 unfolding entered

@@ -21,12 +21,12 @@ use Rattle.book.specs.Book.{Book, in_state, write, flag_of, depth_of}
 use Rattle.book.specs.Lawful.{Lawful}
 use Rattle.opening.specs.Open.{fresh_book}
 use Rattle.reserve.specs.Stamps.{stamp_answer}
-use Rattle.reserve.specs.Offer.{Ended, shape_of, entered}
+use Rattle.reserve.specs.Offer.{shape_of, entered}
 use Rattle.histories.specs.Histories.{Offer, ByteOffer, Openable, after, heard, passing}
 use Rattle.book.proofs.Soundness.{lawful_sound, lawful_fitting, sound_lawful}
 use Rattle.book.proofs.Roundtrip.{read_write, write_well_formed}
 use Rattle.reserve.proofs.Stamped.{stamp_range, stamp_fits}
-use Rattle.reserve.proofs.Ways.{way_overfull, way_stamp, way_enters}
+use Rattle.reserve.proofs.Ways.{bytes_after, way_overfull, way_stamp, way_enters}
 
 -- the depth never falls, and of an overfull book it counts as 16
 pub deepens : (overlay : List ℕ) (capacity d : ℕ) (l : List (List ℕ)) (r : List ℕ) → d ≤ 16 → d ≤ depth_of (settling.offer (shape overlay capacity) (good d l) r)
@@ -86,9 +86,6 @@ module _ (batches : List ℕ) (o : Offer) where
           let same : record_of o.address o.stamp ≡ r = let f = passing_some z in cc in
           rw (← same) (stamp_fits batches o.address o.stamp o.account h.address h.stamp z)
       go (inr z) = let f = passing_none (λ u. omega (arith, u, z.0)) in let q : ◌≡◌ {A = ℕ} 0 1 = cc in absurd (omega arith)
-
-abbrev bytes_after : Ended → List ℕ
-bytes_after e = e.bytes
 
 -- the state byte of a book's bytes
 pub flag_there : (b : Book) → state_in (write b) ≡ flag_of b.state

@@ -13,11 +13,10 @@ use Rattle.book.specs.Layout.{count_in, WellFormed}
 use Rattle.book.specs.Lawful.{Lawful}
 use Rattle.book.specs.Book.{Book, in_state, held_by, read, write}
 use Rattle.opening.specs.Open.{fresh_book}
-use Rattle.reserve.specs.Offer.{Ended}
 use Rattle.histories.specs.Histories.{Offer, ByteOffer, Openable, after, heard, passing, opened, settled_bytes}
 use Rattle.histories.specs.Theorems.{Histories, HistoriesByMembers, SameMembersSameBytes, CountIsRecords, AlwaysWellFormed, Answers, RefusedChangesNothing, VeryRecord, NearnessOfSlots, OutsideTheDepth, OverfullForEver, RoomIsUsed}
 use Rattle.book.proofs.Roundtrip.{write_well_formed, read_write}
-use Rattle.reserve.proofs.Ways.{way_overfull}
+use Rattle.reserve.proofs.Ways.{bytes_after, way_overfull}
 use Rattle.histories.proofs.Heard.{lawful_fresh, heard_hear, lawful_hear}
 use Rattle.histories.proofs.Answered as answered
 use Rattle.histories.proofs.Outside.{near_offer, outside_below, below_outside}
@@ -97,7 +96,7 @@ pub overfull_for_ever : OverfullForEver
 unfolding heard
 overfull_for_ever batches book [] w z = refl
 overfull_for_ever batches book (o ∷ s) w z =
-    let same : after batches book o ≡ book = ap (λ (e : Ended). e.bytes) (way_overfull book batches o.address o.stamp o.account w z) in
+    let same : after batches book o ≡ book = ap bytes_after (way_overfull book batches o.address o.stamp o.account w z) in
     rw same (overfull_for_ever batches book s w z)
 
 pub room_is_used : RoomIsUsed

@@ -4,7 +4,7 @@ use mathlib.Core.List.{List, [], ◌∷◌, ◌++◌}
 use Prim.Native.Nat.{ℕ, zero, suc, ◌+◌, ◌*◌, ◌/◌, ◌%◌, ◌^◌, ◌<◌, ◌≤◌}
 use native.Mathlib.Nat.{zero-mul, add-mul, mul_assoc, mul_comm, add_comm, add-zero}
 use native.Mathlib.Omega.{arith}
-use lib.Bits.{bit_xor, xor_zero_r, xor_comm, xor_shifted}
+use lib.Bits.{bit_xor, xor_zero_r, xor_comm, xor_assoc, xor_shifted}
 use lib.ListN.{get_or, set, take, drop, length, length-set, length-take, length-drop, take-append-drop}
 use lib.Pow.{pow-add, shl_exact, shl_lt}
 use lib.Seq.{set-set, set-get_or, get_or-set_same, get_or-set_other, ext_get_or, drop-nil, drop-drop}
@@ -15,7 +15,6 @@ use Rattle.tables.specs.Rules.{tab}
 use Rattle.tables.proofs.Tabulated.{tab_at}
 use Rattle.keccak.specs.Sponge.{xor_byte}
 use Rattle.keccak.specs.Hash.{word, xor_block}
-use Rattle.keccak.proofs.Xor.{xor_assoc}
 
 -- bytes go in one after the other, the first as byte n of the state
 unfoldable pub xor_bytes : List ℕ → ℕ → List ℕ → List ℕ

@@ -1,5 +1,4 @@
 -- Laws that belong to no one function.
-pub mod Xor
 pub mod Lane
 pub mod Step
 pub mod Textbook

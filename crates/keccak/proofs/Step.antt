@@ -1,24 +1,24 @@
 -- Laws of absorbing: one byte, parts, and the turns of the two loops.
 use mathlib.Core.Path.{◌≡◌, refl, ap, ap₂, ◌∙◌, sym, subst}
 use mathlib.Core.Logic.{⊎_elim}
-use mathlib.Core.List.{List, [], ◌∷◌, ◌++◌}
-use Prim.Native.Nat.{ℕ, suc, ◌+◌, ◌-◌, ◌*◌, ◌/◌, ◌%◌, ◌^◌, ◌<◌, ◌≤◌}
+use mathlib.Core.List.{List, [], ◌∷◌, ◌++◌, append_assoc, append-nil}
+use Prim.Native.Nat.{ℕ, zero, suc, ◌+◌, ◌-◌, ◌*◌, ◌/◌, ◌%◌, ◌^◌, ◌<◌, ◌≤◌}
 use lib.Bits.{bit_xor}
 use native.Mathlib.Nat.{eq-or-lt_of_le}
 use native.Mathlib.Decide.{dec_lt}
 use native.Mathlib.Numerals.{add-one}
 use native.Mathlib.Omega.{arith}
 use borrow.Author.Tests.{eq-eqb, ne_eqb, lt-ltb, le-ltb}
-use lib.ListN.{get_or, set, take, drop, length, length-set, length-take, length-drop, take-append-drop}
-use lib.Seq.{take-suc, take-add, take_all, length-take-le}
+use lib.ListN.{get_or, set, take, drop, length, length-set, take-append-drop}
+use lib.Seq.{take-suc, take-add, take-length, length-take-le}
+use Rattle.std.specs.Simd.{first_chunks}
 use Rattle.octets.specs.Bytes.{Bytes}
-use Rattle.octets.specs.Number.{little_at}
-use Rattle.octets.proofs.Bytes.{bytes_take, bytes_drop}
-use Rattle.octets.proofs.Numbers.{little_at_fits}
+use Rattle.octets.specs.Number.{little}
+use Rattle.octets.proofs.Bytes.{bytes_parts}
 use Rattle.permutation.specs.Permutation.{permute}
 use Rattle.permutation.proofs.Rounds.{permute_length}
 use Rattle.keccak.specs.declared.sponge.Sponge.{Sponge}
-use Rattle.keccak.specs.Sponge.{Sound, sponge, fresh, usable, step, absorbed, xor_byte}
+use Rattle.keccak.specs.Sponge.{Sound, sponge, fresh, usable, step, absorbed, joined_parts, xor_byte}
 use Rattle.keccak.proofs.Lane.{xor_bytes, word_in}
 
 pub absorbed_append : (s : Sponge) (xs ys : List ℕ) → absorbed s (xs ++ ys) ≡ absorbed (absorbed s xs) ys
@@ -137,31 +137,50 @@ module _ (a : List ℕ) (n p : ℕ) (s : Sponge) (q : List ℕ) (i : ℕ) (h : i
   pub byte_next : (n + 1 ≡ 136 → ⊥) → sponge (set a (n / 8) (bit_xor (get_or a (n / 8) 0) p)) (n + 1) ≡ absorbed s (take (i + 1) q)
   byte_next m = ap (λ (x : List ℕ). sponge x (n + 1)) byte_same ∙ sym (step_next a n (get_or q i 0) m) ∙ byte_then
 
--- a word: the same at a place where one begins
-module _ (a : List ℕ) (n w : ℕ) (s : Sponge) (q : List ℕ) (i : ℕ) (ha : length a ≡ 25) (hn : n < 136) (al : n % 8 ≡ 0) (h : i + 8 ≤ length q) (y : Bytes q)
-    (ew : w ≡ little_at 8 q i) (was : sponge a n ≡ absorbed s (take i q)) where
-  long : length (take 8 (drop i q)) ≡ 8
-  long = omega (arith, length-take 8 (drop i q), length-drop i q)
-
-  word_same : set a (n / 8) (bit_xor (get_or a (n / 8) 0) w) ≡ xor_bytes a n (take 8 (drop i q))
+-- a word: the same at a place where one begins, with the eight bytes bs
+module _ (a : List ℕ) (n w : ℕ) (s : Sponge) (before bs : List ℕ) (ha : length a ≡ 25) (hn : n < 136) (al : n % 8 ≡ 0) (long : length bs ≡ 8) (y : Bytes bs)
+    (ew : w ≡ little bs) (was : sponge a n ≡ absorbed s before) where
+  word_same : set a (n / 8) (bit_xor (get_or a (n / 8) 0) w) ≡ xor_bytes a n bs
   word_same =
       let e : 8 * (n / 8) ≡ n = omega arith in
-      ap (λ (x : ℕ). set a (n / 8) (bit_xor (get_or a (n / 8) 0) x)) (ew ∙ little_at_fits 8 q i h)
-      ∙ sym (word_in (take 8 (drop i q)) a (n / 8) (omega arith) long (bytes_take 8 (drop i q) (bytes_drop i q y)))
-      ∙ ap (λ (m : ℕ). xor_bytes a m (take 8 (drop i q))) e
+      ap (λ (x : ℕ). set a (n / 8) (bit_xor (get_or a (n / 8) 0) x)) ew ∙ sym (word_in bs a (n / 8) (omega arith) long y) ∙ ap (λ (m : ℕ). xor_bytes a m bs) e
 
-  pub word_full : (r : List ℕ) → n + 8 ≡ 136 → r ≡ permute (set a (n / 8) (bit_xor (get_or a (n / 8) 0) w)) → sponge r 0 ≡ absorbed s (take (i + 8) q)
-  word_full r m er =
-      ap (λ (x : List ℕ). sponge x 0) (er ∙ ap permute word_same)
-      ∙ sym (full_in (take 8 (drop i q)) a n (omega (arith, long)) hn)
-      ∙ absorbed_more s (sponge a n) q i 8 was
+  word_then : absorbed (sponge a n) bs ≡ absorbed s (before ++ bs)
+  word_then = ap (λ (x : Sponge). absorbed x bs) was ∙ sym (absorbed_append s before bs)
 
-  pub word_next : (n + 8 ≡ 136 → ⊥) → sponge (set a (n / 8) (bit_xor (get_or a (n / 8) 0) w)) (n + 8) ≡ absorbed s (take (i + 8) q)
+  pub word_full : (r : List ℕ) → n + 8 ≡ 136 → r ≡ permute (set a (n / 8) (bit_xor (get_or a (n / 8) 0) w)) → sponge r 0 ≡ absorbed s (before ++ bs)
+  word_full r m er = ap (λ (x : List ℕ). sponge x 0) (er ∙ ap permute word_same) ∙ sym (full_in bs a n (omega (arith, long)) hn) ∙ word_then
+
+  pub word_next : (n + 8 ≡ 136 → ⊥) → sponge (set a (n / 8) (bit_xor (get_or a (n / 8) 0) w)) (n + 8) ≡ absorbed s (before ++ bs)
   word_next m =
       let room : n + 8 < 136 = omega (arith, m) in
-      ap₂ sponge word_same (ap (λ (k : ℕ). n + k) (sym long))
-      ∙ sym (part_in (take 8 (drop i q)) a n (omega (arith, long)))
-      ∙ absorbed_more s (sponge a n) q i 8 was
+      ap₂ sponge word_same (ap (λ (k : ℕ). n + k) (sym long)) ∙ sym (part_in bs a n (omega (arith, long))) ∙ word_then
+
+-- ---- words one after the other
+
+pub joined_append : (ws vs : List (List ℕ)) → joined_parts (ws ++ vs) ≡ joined_parts ws ++ joined_parts vs
+unfolding joined_parts
+joined_append [] vs = refl
+joined_append (w ∷ ws) vs = rw (joined_append ws vs, append_assoc)
+
+pub joined_more : (ws : List (List ℕ)) (i : ℕ) → i < length ws → joined_parts (take (i + 1) ws) ≡ joined_parts (take i ws) ++ get_or ws i []
+unfolding joined_parts
+joined_more ws i h = rw (add-one, take-suc ws i [] h, joined_append (take i ws), append-nil)
+
+pub joined_all : (ws : List (List ℕ)) (i : ℕ) → i ≡ length ws → joined_parts (take i ws) ≡ joined_parts ws
+joined_all ws i e = ap joined_parts (rw e (take-length ws))
+
+pub word_bytes : (ws : List (List ℕ)) (i : ℕ) → Bytes (joined_parts ws) → Bytes (get_or ws i [])
+unfolding joined_parts
+word_bytes [] i h = tt
+word_bytes (w ∷ ws) zero h = (bytes_parts w (joined_parts ws) h).0
+word_bytes (w ∷ ws) (suc i) h = word_bytes ws i (bytes_parts w (joined_parts ws) h).1
+
+-- a string cut into words
+pub words_joined : (k : ℕ) (xs : List ℕ) → joined_parts (first_chunks 8 k xs) ≡ take (k * 8) xs
+unfolding joined_parts
+words_joined zero xs = refl
+words_joined (suc k) xs = let e : suc k * 8 ≡ 8 + k * 8 = omega arith in rw (words_joined k (drop 8 xs), e, ← take-add 8 (k * 8) xs)
 
 -- ---- a part in three: the bytes that end a begun word, the words, and what is left
 
@@ -182,16 +201,8 @@ three_parts s t u v p first middle rest et eu ev e =
     ∙ sym (absorbed_append s (first ++ middle) rest)
     ∙ ap (absorbed s) e
 
--- what stands in p from i up to j
-abbrev pub stretch : List ℕ → ℕ → ℕ → List ℕ
-stretch p i j = take (j - i) (drop i p)
-
--- three stretches, each begun where the last one ends, are all of p
-pub stretches : (p : List ℕ) (k n : ℕ) → k ≤ n → (stretch p 0 k ++ stretch p k n) ++ stretch p n (length p) ≡ p
-stretches p k n h =
-    let z : k - 0 ≡ k = omega arith in
-    let e : k + (n - k) ≡ n = omega arith in
-    rw (z, ← take-add k (n - k) p, e, take_all (length p - n) (drop n p) (omega (arith, length-drop n p))) (take-append-drop n p)
+pub parted : (p : List ℕ) (k m : ℕ) → (take k p ++ take m (drop k p)) ++ drop m (drop k p) ≡ p
+parted p k m = rw (append_assoc, take-append-drop m (drop k p), take-append-drop k p)
 
 -- what `finish` leaves in the lanes, where p is 0x01 at its place
 pub padded_lanes : (s : Sponge) (p : ℕ) → p ≡ 0x01 * 2 ^ (8 * (s.place % 8)) % 2 ^ 64

@@ -4,7 +4,7 @@ use mathlib.Core.List.{List, [], ◌∷◌, ◌++◌}
 use Prim.Native.Nat.{ℕ, zero, suc, ◌+◌, ◌-◌, ◌*◌, ◌/◌, ◌%◌, ◌^◌, ◌<◌}
 use native.Mathlib.Nat.{zero-mul}
 use native.Mathlib.Omega.{arith}
-use lib.Bits.{bit_xor, xor_zero_r}
+use lib.Bits.{bit_xor, xor_assoc, xor_zero_r}
 use lib.ListN.{get_or, set, take, drop, length, replicate, length-append, length-take, length-drop, length-replicate, take-append-drop}
 use lib.Seq.{set-get_or, set-set, get_or-set_same}
 use Rattle.octets.specs.Bytes.{Bytes}
@@ -14,7 +14,6 @@ use Rattle.permutation.proofs.Rounds.{permute_length}
 use Rattle.keccak.specs.declared.sponge.Sponge.{Sponge}
 use Rattle.keccak.specs.Sponge.{Sound, sponge, fresh, absorbed, xor_byte, digest_of, finished}
 use Rattle.keccak.specs.Hash.{padding, padded, block_count, xor_block, blocks, keccak256, textbook}
-use Rattle.keccak.proofs.Xor.{xor_assoc}
 use Rattle.keccak.proofs.Lane.{xor_bytes, block_in}
 use Rattle.keccak.proofs.Step.{absorbed_append, full_in, fresh_sound, absorbed_at}
 

@@ -1,9 +1,9 @@
 // The sponge is a value: each absorbing method takes it and hands it back, and a last one gives the digest.
-ghost use Rattle.std.specs.Prelude.{◌≡◌, ◌-◌, ◌%◌, ◌<◌, ◌≤◌, length};
-ghost use Rattle.keccak.specs.Sponge.{Sound, fresh, usable, absorbed, finished};
+ghost use Rattle.std.specs.Prelude.{◌≡◌, ◌%◌, ◌<◌};
+ghost use Rattle.octets.specs.Bytes.{Bytes};
+ghost use Rattle.keccak.specs.Sponge.{Sound, fresh, usable, absorbed, joined_parts, finished};
 
 use crate::words::{digest, placed};
-use octets::number::read_little64;
 use permutation::permute;
 
 const RATE: usize = 136;
@@ -30,15 +30,10 @@ impl Sponge {
     fn usable(self) -> Self
         ensures { (result ≡ usable self) × Sound result }
     {
-        let lanes = self.lanes;
-        let place = self.place;
-        if place < RATE {
-            Sponge { lanes, place }
+        if self.place < RATE {
+            self
         } else {
-            Sponge {
-                lanes: [0u64; 25],
-                place: 0,
-            }
+            Sponge::new()
         }
     }
 
@@ -49,37 +44,31 @@ impl Sponge {
     {
         let mut lanes = self.lanes;
         let mut place = self.place;
-        let mut i = 0;
-        while i < part.len() {
-            let k = place / 8;
-            lanes[k] = lanes[k] ^ placed(part[i], place);
+        for &byte in part {
+            lanes[place / 8] ^= placed(byte, place);
             place += 1;
             if place == RATE {
                 lanes = permute(lanes);
                 place = 0;
             }
-            i += 1;
         }
         Sponge { lanes, place }
     }
 
-    // Eight bytes at a time, from a place where a word begins. The loop tests that eight are left, and the read's own test is then compiled away.
-    fn words(self, part: &[u8]) -> Self
-        requires { Sound self × (self.place % 8 ≡ 0) × (length part.now % 8 ≡ 0) }
-        ensures { result ≡ absorbed self part.now }
+    // Eight bytes at a time, from a place where a word begins.
+    fn words(self, words: &[[u8; 8]]) -> Self
+        requires { Sound self × (self.place % 8 ≡ 0) × Bytes (joined_parts words.now) }
+        ensures { result ≡ absorbed self (joined_parts words.now) }
     {
         let mut lanes = self.lanes;
         let mut place = self.place;
-        let mut i = 0;
-        while 8 <= part.len() - i {
-            let k = place / 8;
-            lanes[k] = lanes[k] ^ read_little64(part, i);
+        for word in words {
+            lanes[place / 8] ^= u64::from_le_bytes(*word);
             place += 8;
             if place == RATE {
                 lanes = permute(lanes);
                 place = 0;
             }
-            i += 8;
         }
         Sponge { lanes, place }
     }
@@ -93,10 +82,9 @@ impl Sponge {
         if part.len() < lead {
             return s.bytes(part);
         }
-        let end = words_end(lead, part.len());
-        let begun = s.bytes(&part[0..lead]);
-        let whole = begun.words(&part[lead..end]);
-        whole.bytes(&part[end..])
+        let (begun, rest) = part.split_at(lead);
+        let (whole, left) = rest.as_chunks::<8>();
+        s.bytes(begun).words(whole).bytes(left)
     }
 
     // The padding's two ends, 0x01 at the next place and 0x80 at the block's last, which meet as 0x81.
@@ -105,18 +93,8 @@ impl Sponge {
     {
         let s = self.usable();
         let mut lanes = s.lanes;
-        let place = s.place;
-        let k = place / 8;
-        lanes[k] = lanes[k] ^ placed(0x01, place);
-        lanes[16] = lanes[16] ^ 0x8000000000000000;
+        lanes[s.place / 8] ^= placed(0x01, s.place);
+        lanes[16] ^= 0x8000000000000000;
         digest(permute(lanes))
     }
-}
-
-// Where whole words end in a part of which the first `lead` bytes fill the word begun. Any such end is right: what is behind it goes in by bytes.
-fn words_end(lead: usize, length: usize) -> usize
-    requires { lead ≤ length }
-    ensures { (lead ≤ result) × (result ≤ length) × ((result - lead) % 8 ≡ 0) }
-{
-    length - (length - lead) % 8
 }

@@ -10,7 +10,8 @@ use lib.Seq.{take_at, length-take-le, set_split, append_snoc}
 use Rattle.moving.specs.Moving.{over, placed}
 use Rattle.moving.proofs.Edits.{drop_over, length_over, placed_fits}
 use Rattle.digits.specs.Field.{decimal}
-use Rattle.listing.specs.Put.{Put}
+use Rattle.listing.specs.declared.field.Text.{Text}
+use Rattle.listing.specs.Put.{Put, Added}
 
 -- two edits, the second where the first ends, are one
 pub over_then : (s : List ℕ) (at : ℕ) (v w : List ℕ) → at ≤ length s → over (over s at v) (at + length v) w ≡ over s at (v ++ w)
@@ -49,13 +50,16 @@ put_then {s} {v} {w} {t} {u} {at} {b} {e} h p q =
       size = q.size ∙ p.size;
     }
 
--- a field, then what is behind it
-pub field_then : (f g : List ℕ) (x : ℕ) {s w t u : List ℕ} {at b e : ℕ} → f ≡ g → at ≤ length s → Put s at (f ++ (x ∷ [])) t b → Put t b w u e
-    → Put s at (g ++ (x ∷ w)) u e
-field_then f g x {s} {w} {t} {u} {at} {b} {e} same h p q = rw (same, append_assoc g (x ∷ []) w) at (put_then h p q)
+-- the same of a text in its buffer
+pub added_then : {s t u : Text} {v w : List ℕ} → s.at ≤ length s.out.now → Added s v t → Added t w u → Added s (v ++ w) u
+added_then h p q = record { put = put_then h p.put q.put; buffer = q.buffer ∙ p.buffer }
 
-pub number_then : {n m : ℕ} (x : ℕ) {s w t u : List ℕ} {at b e : ℕ} → n ≡ m → at ≤ length s → Put s at (decimal n ++ (x ∷ [])) t b → Put t b w u e
-    → Put s at (decimal m ++ (x ∷ w)) u e
+-- a field, then what is behind it
+pub field_then : (f g : List ℕ) (x : ℕ) {s t u : Text} {w : List ℕ} → f ≡ g → s.at ≤ length s.out.now → Added s (f ++ (x ∷ [])) t → Added t w u → Added s (g ++ (x ∷ w)) u
+field_then f g x {s} {t} {u} {w} same h p q = rw (same, append_assoc g (x ∷ []) w) at (added_then h p q)
+
+pub number_then : {n m : ℕ} (x : ℕ) {s t u : Text} {w : List ℕ} → n ≡ m → s.at ≤ length s.out.now → Added s (decimal n ++ (x ∷ [])) t → Added t w u
+    → Added s (decimal m ++ (x ∷ w)) u
 number_then {n} {m} x same = field_then (decimal n) (decimal m) x (ap decimal same)
 
 -- where a field ends

@@ -2,10 +2,12 @@
 use mathlib.Core.Path.{◌≡◌, refl, sym, ap, ap₂, ◌∙◌}
 use mathlib.Core.List.{List, [], ◌∷◌, ◌++◌}
 use Prim.Native.Nat.{ℕ, zero, suc, ◌+◌, ◌-◌, ◌≤◌, min}
-use native.Mathlib.Nat.{suc-add, zero-add, pow-suc, min-zero, zero-min, suc-min-suc, le_of_suc-le-suc, suc-sub-suc, sub-zero, suc_inj}
+use native.Mathlib.Nat.{suc-add, zero-add, pow-suc, le_of_suc-le-suc, suc-sub-suc, sub-zero, suc_inj}
 use native.Mathlib.Omega.{arith}
 use lib.ListN.{length, take, drop, replicate, length-drop}
 use lib.Seq.{take-nil, drop-nil, length-take-le}
+use Rattle.std.proofs.Math.Nat.{min_comm}
+use Rattle.std.proofs.lemmas.List.{take_min, drop_min}
 use Rattle.keccak.proofs.Theorems.{digest_length}
 use Rattle.merkle.specs.Tree.{pad_to, width, hash, root}
 
@@ -61,14 +63,10 @@ pad_first (suc n) (x ∷ s) = ap (λ (t : List ℕ). x ∷ t) (pad_first n s)
 
 -- a cut at n, or at the end where that comes first
 pub cut_take : (n : ℕ) (s : List ℕ) → take (min (length s) n) s ≡ take n s
-cut_take zero s = rw min-zero
-cut_take (suc n) [] = rw zero-min
-cut_take (suc n) (x ∷ s) = rw suc-min-suc (ap (λ (t : List ℕ). x ∷ t) (cut_take n s))
+cut_take n s = rw (min_comm (length s) n) (take_min n s)
 
 pub cut_drop : (n : ℕ) (s : List ℕ) → drop (min (length s) n) s ≡ drop n s
-cut_drop zero s = rw min-zero
-cut_drop (suc n) [] = rw zero-min
-cut_drop (suc n) (x ∷ s) = rw suc-min-suc (cut_drop n s)
+cut_drop n s = rw (min_comm (length s) n) (drop_min n s)
 
 -- ---- the root
 

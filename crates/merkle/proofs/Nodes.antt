@@ -6,7 +6,7 @@ use native.Mathlib.Nat.{pow-suc, div-div-eq-div-mul}
 use native.Mathlib.Omega.{arith}
 use lib.ListN.{length, take, drop, length-drop}
 use lib.Seq.{take-take, drop-drop, length-take-le}
-use Rattle.octets.proofs.Parts.{part_of_take}
+use Rattle.std.proofs.lemmas.List.{drop-take}
 use Rattle.keccak.proofs.Theorems.{digest_length}
 use Rattle.merkle.specs.Tree.{width, hash, root}
 use Rattle.merkle.specs.Proof.{paired, node, beside}
@@ -27,7 +27,7 @@ pub right_part : (l n : ℕ) (bytes : List ℕ) → drop (width l) (part (suc l)
 right_part l n bytes =
     let at : n * width (suc l) + width l ≡ (2 * n + 1) * width l = ap (λ (w : ℕ). n * w + width l) (width_suc l) ∙ omega arith in
     ap (λ (w : ℕ). drop (width l) (take w (drop (n * width (suc l)) bytes))) (width_suc l)
-    ∙ part_of_take (width l) (width l) (drop (n * width (suc l)) bytes)
+    ∙ drop-take (width l) (width l) (drop (n * width (suc l)) bytes)
     ∙ ap (take (width l)) (drop-drop (width l) (n * width (suc l)) bytes ∙ ap (λ (k : ℕ). drop k bytes) at)
 
 -- a node and the node beside it, in their order, are the message of the node above

@@ -2,10 +2,10 @@
 use mathlib.Core.Path.{◌≡◌, refl, sym, ap, ◌∙◌}
 use mathlib.Core.List.{List, [], ◌∷◌, ◌++◌}
 use Prim.Native.Nat.{ℕ, zero, suc, ◌+◌, ◌-◌, ◌≤◌}
-use native.Mathlib.Nat.{le_of_suc-le-suc}
 use native.Mathlib.Omega.{arith}
 use lib.ListN.{length, take, replicate}
 use lib.Seq.{take_at, take-append-add}
+use Rattle.std.proofs.lemmas.List.{take-replicate}
 use Rattle.merkle.specs.Tree.{pad_to}
 use Rattle.merkle.proofs.Halves.{pad_behind}
 
@@ -15,11 +15,6 @@ pad_zeros zero s n = refl
 pad_zeros (suc m) [] zero = refl
 pad_zeros (suc m) [] (suc n) = ap (λ (t : List ℕ). 0 ∷ t) (pad_zeros m [] n)
 pad_zeros (suc m) (b ∷ s) n = ap (λ (t : List ℕ). b ∷ t) (pad_zeros m s n)
-
-take_zeros : (d m : ℕ) → d ≤ m → take d (replicate {A = ℕ} m 0) ≡ replicate d 0
-take_zeros zero m h = refl
-take_zeros (suc d) zero h = absurd (omega arith)
-take_zeros (suc d) (suc m) h = ap (λ (t : List ℕ). 0 ∷ t) (take_zeros d m (le_of_suc-le-suc h))
 
 pub pad_tells : (n : ℕ) (a b : List ℕ) → length a ≤ length b → length b ≤ n → pad_to n a ≡ pad_to n b → b ≡ a ++ replicate (length b - length a) 0
 pad_tells n a b h k e =
@@ -31,4 +26,4 @@ pad_tells n a b h k e =
     ∙ ap (take (length b)) joined
     ∙ ap (λ (j : ℕ). take j (a ++ zeros (n - length a))) at
     ∙ take-append-add a (zeros (n - length a)) d
-    ∙ ap (λ (t : List ℕ). a ++ t) (take_zeros d (n - length a) (omega arith))
+    ∙ ap (λ (t : List ℕ). a ++ t) (take-replicate d (n - length a) 0 (omega arith))

@@ -1,25 +1,21 @@
 -- A buffer that is filled from the front, and the sisters one level after the other.
 use mathlib.Core.Path.{◌≡◌, sym, ap, ◌∙◌}
-use mathlib.Core.List.{List, ◌++◌, append_assoc, append-nil}
+use mathlib.Core.List.{List, [], ◌++◌, append_assoc, append-nil}
 use Prim.Native.Nat.{ℕ, zero, suc, ◌+◌, ◌-◌, ◌*◌, ◌/◌, ◌^◌, ◌≤◌, ◌<◌}
 use native.Mathlib.Nat.{zero-add, add-zero, mul_assoc, add-mul, mul_left_comm, mul-le-mul_right, div-lt_iff_lt-mul}
 use native.Mathlib.Numerals.{add-one}
 use native.Mathlib.Omega.{arith}
-use lib.ListN.{length, take, drop, length-append}
+use lib.ListN.{length, take, drop, length-append, drop_of_length-le}
 use lib.Pow.{pow-add, pow_pos}
-use lib.Seq.{take_at, take_all, length-take-le}
-use Rattle.moving.specs.Moving.{over, placed}
-use Rattle.moving.proofs.Edits.{placed_fits, length_placed}
+use lib.Seq.{take_at, drop-drop, length-take-le}
 use Rattle.merkle.specs.Tree.{pad_to, width}
 use Rattle.merkle.specs.Proof.{node, beside, sisters, proof_of}
 
--- what is put behind the first `at` bytes stands behind them
-pub put_behind : (s v : List ℕ) (at n : ℕ) → at + length v ≡ n → n ≤ length s → take n (placed s at v) ≡ take at s ++ v
-unfolding over
-put_behind s v at n e h =
-    let f : at + length v ≤ length s = omega arith in
-    let k : length (take at s ++ v) ≡ n = length-append (take at s) v ∙ ap (λ (m : ℕ). m + length v) (length-take-le at s (omega arith)) ∙ e in
-    ap (take n) (placed_fits s at v f) ∙ take_at (take at s ++ v) (drop (at + length v) s) n k
+-- what is laid behind the first `at` bytes stands behind them
+put_behind : (s v rest : List ℕ) (at n : ℕ) → at + length v ≡ n → at ≤ length s → take n (take at s ++ (v ++ rest)) ≡ take at s ++ v
+put_behind s v rest at n e h =
+    let k : length (take at s ++ v) ≡ n = length-append (take at s) v ∙ ap (λ (m : ℕ). m + length v) (length-take-le at s h) ∙ e in
+    ap (take n) (sym (append_assoc (take at s) v rest)) ∙ take_at (take at s ++ v) rest n k
 
 -- one sister more
 pub sisters_more : (prefix : List ℕ) (index : ℕ) (bytes : List ℕ) (l n : ℕ)
@@ -49,34 +45,26 @@ beside_fits l index h k =
     let ends : (n + 1) * p ≤ 2 * q * p = mul-le-mul_right p last in
     omega (arith, add-mul n 1 p, mul_left_comm n 32 p)
 
--- a turn of the loop: sister l is put behind the segment and the sisters below it
-pub sister_put : (prefix : List ℕ) (index : ℕ) (bytes segment s sister t : List ℕ) (l n : ℕ) → l < 7 → length s ≡ 264 → length sister ≡ 32
+-- a turn of the loop: sister l is laid behind the segment and the sisters below it
+pub sister_put : (prefix : List ℕ) (index : ℕ) (bytes segment s sister rest : List ℕ) (l n : ℕ) → 32 + 32 * l ≤ length s → length sister ≡ 32
     → take (32 + 32 * l) s ≡ segment ++ sisters prefix index bytes 0 l → n ≡ beside (index / 2 ^ l) → sister ≡ node prefix l n bytes
-    → t ≡ placed s (32 + 32 * l) sister → take (32 + 32 * (l + 1)) t ≡ segment ++ sisters prefix index bytes 0 (l + 1)
-sister_put prefix index bytes segment s sister t l n h len k before en es et =
+    → take (32 + 32 * (l + 1)) (take (32 + 32 * l) s ++ (sister ++ rest)) ≡ segment ++ sisters prefix index bytes 0 (l + 1)
+sister_put prefix index bytes segment s sister rest l n h k before en es =
     let lower = sisters prefix index bytes 0 l in
     let ends : 32 + 32 * l + length sister ≡ 32 + 32 * (l + 1) = omega arith in
     let here : sister ≡ node prefix (0 + l) (beside (index / 2 ^ (0 + l))) bytes =
     es ∙ ap (λ (m : ℕ). node prefix l m bytes) en ∙ ap (λ (m : ℕ). node prefix m (beside (index / 2 ^ m)) bytes) (sym (zero-add l)) in
-    ap (take (32 + 32 * (l + 1))) et
-    ∙ put_behind s sister (32 + 32 * l) (32 + 32 * (l + 1)) ends (omega arith)
+    put_behind s sister rest (32 + 32 * l) (32 + 32 * (l + 1)) ends h
     ∙ ap (λ (u : List ℕ). u ++ sister) before
     ∙ append_assoc segment lower sister
     ∙ ap (λ (u : List ℕ). segment ++ (lower ++ u)) here
     ∙ ap (λ (u : List ℕ). segment ++ u) (sym (sisters_more prefix index bytes 0 l) ∙ ap (sisters prefix index bytes 0) (sym (add-one l)))
 
 -- the segment, the sisters behind it, and the span behind those fill the buffer
-pub proof_put : (prefix span chunk : List ℕ) (index : ℕ) (s segment s₁ s₂ s₃ : List ℕ) → length s ≡ 264 → length segment ≡ 32 → length span ≡ 8
-    → segment ≡ node prefix 0 index (pad_to 4096 chunk) → s₁ ≡ placed s 0 segment
-    → length s₂ ≡ 264 → take 256 s₂ ≡ take 32 s₁ ++ sisters prefix index (pad_to 4096 chunk) 0 7
-    → s₃ ≡ placed s₂ 256 span → s₃ ≡ proof_of prefix span chunk index
+pub proof_whole : (prefix span chunk : List ℕ) (index : ℕ) (s : List ℕ) → length s ≡ 264
+    → take 256 s ≡ node prefix 0 index (pad_to 4096 chunk) ++ sisters prefix index (pad_to 4096 chunk) 0 7
+    → take 256 s ++ (span ++ drop 8 (drop 256 s)) ≡ proof_of prefix span chunk index
 unfolding proof_of
-proof_put prefix span chunk index s segment s₁ s₂ s₃ len k w es e₁ len₂ before e₃ =
-    let above = sisters prefix index (pad_to 4096 chunk) 0 7 in
-    let len₃ : length s₃ ≡ 264 = ap length e₃ ∙ length_placed s₂ 256 span ∙ len₂ in
-    let first : take 32 s₁ ≡ segment = ap (take 32) e₁ ∙ put_behind s segment 0 32 (omega arith) (omega arith) in
-    sym (take_all 264 s₃ (omega arith))
-    ∙ ap (take 264) e₃
-    ∙ put_behind s₂ span 256 264 (omega arith) (omega arith)
-    ∙ ap (λ (u : List ℕ). u ++ span) (before ∙ ap (λ (u : List ℕ). u ++ above) (first ∙ es))
-    ∙ append_assoc (node prefix 0 index (pad_to 4096 chunk)) above span
+proof_whole prefix span chunk index s len before =
+    let end : drop 8 (drop 256 s) ≡ [] = drop-drop 8 256 s ∙ drop_of_length-le s {i = 264} (omega arith) in
+    rw (end, append-nil span, before) (append_assoc (node prefix 0 index (pad_to 4096 chunk)) (sisters prefix index (pad_to 4096 chunk) 0 7) span)

@@ -2,13 +2,11 @@
 use mathlib.Core.Path.{◌≡◌, refl, sym, ap, ◌∙◌}
 use mathlib.Core.List.{List, [], ◌∷◌, ◌++◌}
 use Prim.Native.Nat.{ℕ, zero, suc, ◌+◌, ◌-◌, ◌≤◌, min}
-use native.Mathlib.Nat.{zero-add, sub-zero, le_of_eq, le_of_suc-le-suc}
+use native.Mathlib.Nat.{le_of_eq, le_of_suc-le-suc}
 use native.Mathlib.Numerals.{sub-one}
 use native.Mathlib.Omega.{arith}
-use lib.ListN.{length, take, drop, replicate, length-drop, length-replicate}
+use lib.ListN.{length, take, drop, replicate, length-drop}
 use lib.Seq.{take_all}
-use Rattle.moving.specs.Moving.{over, placed}
-use Rattle.moving.proofs.Edits.{placed_fits}
 use Rattle.merkle.specs.Tree.{pad_to, width, hash, root}
 use Rattle.merkle.proofs.Halves.{pad_take, pad_drop, pad_first, cut_take, cut_drop, width_suc, root_cut}
 
@@ -36,29 +34,19 @@ pad_from n at w s start h e =
     ∙ sym (pad_stretch n at w s h ∙ pad_first w (drop at s))
 
 -- a part that is cut to n bytes, or at its end where that comes first
-pub pad_cut : (n : ℕ) (s : List ℕ) (end : ℕ) → end ≡ min (length s) n → pad_to n (take (end - 0) s) ≡ pad_to n s
+pub pad_cut : (n : ℕ) (s : List ℕ) (end : ℕ) → end ≡ min (length s) n → pad_to n (take end s) ≡ pad_to n s
 pad_cut n s end e =
-    ap (λ (k : ℕ). pad_to n (take k s)) (sub-zero end ∙ e) ∙ ap (pad_to n) (cut_take n s) ∙ pad_first n s
+    ap (λ (k : ℕ). pad_to n (take k s)) e ∙ ap (pad_to n) (cut_take n s) ∙ pad_first n s
 
 -- a part laid over as many zeros as it should have bytes
-pad_over : (n : ℕ) (s : List ℕ) → length s ≤ n → over (replicate n 0) 0 s ≡ pad_to n s
-unfolding over pad_to
-pad_over n s h = ap (λ (k : ℕ). s ++ drop k (replicate n 0)) (zero-add (length s)) ∙ behind n s h
-  where
-    behind : (n : ℕ) (s : List ℕ) → length s ≤ n → s ++ drop (length s) (replicate n 0) ≡ pad_to n s
-    behind zero [] h = refl
-    behind zero (b ∷ s) h = absurd (omega arith)
-    behind (suc n) [] h = ap (λ (t : List ℕ). 0 ∷ t) (behind n [] (omega arith))
-    behind (suc n) (b ∷ s) h = ap (λ (t : List ℕ). b ∷ t) (behind n s (le_of_suc-le-suc h))
-
-pub pad_placed : (n : ℕ) (s : List ℕ) → length s ≤ n → placed (replicate n 0) 0 s ≡ pad_to n s
-pad_placed n s h = placed_fits (replicate n 0) 0 s (omega (arith, length-replicate {A = ℕ} n 0)) ∙ pad_over n s h
+pub pad_laid : (n : ℕ) (s : List ℕ) → length s ≤ n → s ++ drop (length s) (replicate n 0) ≡ pad_to n s
+unfolding pad_to
+pad_laid zero [] h = refl
+pad_laid zero (b ∷ s) h = absurd (omega arith)
+pad_laid (suc n) [] h = ap (λ (t : List ℕ). 0 ∷ t) (pad_laid n [] (omega arith))
+pad_laid (suc n) (b ∷ s) h = ap (λ (t : List ℕ). b ∷ t) (pad_laid n s (le_of_suc-le-suc h))
 
 -- ---- one level of the tree, as the code takes it
-
-pub nothing : (s : List ℕ) → length s ≡ 0 → s ≡ []
-nothing [] e = refl
-nothing (b ∷ s) e = absurd (omega arith)
 
 pub root_segment : (prefix : List ℕ) (level : ℕ) (s : List ℕ) → level ≡ 0 → pad_to 32 s ≡ root prefix level (pad_to (width level) s)
 unfolding root
@@ -69,11 +57,7 @@ width_below zero h = absurd (h refl)
 width_below (suc l) h = rw sub-one (width_suc l)
 
 pub root_level : (prefix : List ℕ) (level : ℕ) (s : List ℕ) (cut : ℕ) → (level ≡ 0 → ⊥) → cut ≡ min (length s) (width (level - 1))
-    → hash prefix
-    (root prefix (level - 1) (pad_to (width (level - 1)) (take (cut - 0) s))
-    ++ root prefix (level - 1) (pad_to (width (level - 1)) (take (length s - cut) (drop cut s))))
+    → hash prefix (root prefix (level - 1) (pad_to (width (level - 1)) (take cut s)) ++ root prefix (level - 1) (pad_to (width (level - 1)) (drop cut s)))
     ≡ root prefix level (pad_to (width level) s)
 root_level prefix zero s cut h e = absurd (h refl)
-root_level prefix (suc l) s cut h e =
-    rw (sub-one, sub-zero, take_all (length s - cut) (drop cut s) (le_of_eq (length-drop cut s)))
-    (sym (root_cut prefix l s cut (e ∙ rw sub-one)))
+root_level prefix (suc l) s cut h e = rw sub-one (sym (root_cut prefix l s cut (e ∙ rw sub-one)))

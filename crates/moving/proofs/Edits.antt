@@ -1,5 +1,5 @@
 -- Laws of edits.
-use mathlib.Core.Path.{◌≡◌, refl, sym}
+use mathlib.Core.Path.{◌≡◌, refl, sym, ◌∙◌}
 use mathlib.Core.Bool.{Bool, true, false, cond, ◌&&◌}
 use mathlib.Core.List.{List, [], ◌++◌, append_assoc, append-nil}
 use Prim.Native.Nat.{ℕ, ◌+◌, ◌-◌, ◌≤◌, ◌<◌}
@@ -7,8 +7,10 @@ use native.Mathlib.Nat.{add-zero}
 use native.Mathlib.Omega.{arith}
 use lib.Dec.{leb}
 use lib.ListN.{length, take, drop, take-append-drop, length-append, length-take, length-drop}
-use lib.Seq.{length-take-le, take-append-le, take-take, drop-drop, drop_at, take-append_seam, drop-append-add, take-add}
+use lib.Seq.{paste, take-length, length-take-le, take-append-le, take-take, drop-drop, drop_at, take-append_seam, drop-append-add, take-add}
 use borrow.Author.Tests.{le-leb, lt-leb, leb-true}
+use borrow.Rule.Slice.PartMut.{put_mid}
+use Rattle.std.proofs.lemmas.Slice.{put_mid-paste}
 use Rattle.octets.proofs.Parts.{part_length}
 use Rattle.moving.specs.Moving.{over, placed, lowered, raised, inserted}
 
@@ -43,6 +45,16 @@ unfolding over
 over_middle p q r v e =
     let ends : length (p ++ q) ≡ length p + length v = simp length-append (omega arith) in
     rw (drop_at (p ++ q) r (length p + length v) ends, append_assoc p q r, take-append_seam p (q ++ r))
+
+-- as std says it: of a part that is lent and written, and of a stretch that is copied
+
+pub over_put : (s : List ℕ) (at k : ℕ) (v w : List ℕ) → w ≡ v → k ≡ length v → put_mid at k s w ≡ over s at v
+unfolding over
+over_put s at k v w e f = put_mid-paste at k s w v (length v) e (sym f) refl ∙ rw take-length
+
+pub over_copied : (s : List ℕ) (from to n k : ℕ) → k ≡ n → from + n ≤ length s → paste s to (drop from s) k ≡ over s to (take n (drop from s))
+unfolding over
+over_copied s from to n k e h = rw (e, part_length s from n h)
 
 -- the edits: where they fit, where they do not, and what holds either way
 

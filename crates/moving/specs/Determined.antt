@@ -4,9 +4,10 @@ use Rattle.std.proofs.Common.{sym, ◌∙◌}
 use Rattle.octets.specs.Number.{bytes_of}
 use Rattle.moving.specs.Moving.{placed, lowered, raised, inserted}
 
--- write16, write32 and write64, at their widths
-pub write_determined : (width : ℕ) (s : List ℕ) (at n : ℕ) (t t' : List ℕ) → t ≡ placed s at (bytes_of width n) → t' ≡ placed s at (bytes_of width n) → t ≡ t'
-write_determined width s at n t t' p q = p ∙ sym q
+-- a number of any type, at that type's width
+pub write_determined : {T : Type 0} (width : ℕ) (value : T → ℕ) (s : List ℕ) (at : ℕ) (n : T) (t t' : List ℕ)
+    → t ≡ placed s at (bytes_of width (value n)) → t' ≡ placed s at (bytes_of width (value n)) → t ≡ t'
+write_determined width value s at n t t' p q = p ∙ sym q
 
 pub put_determined : (s : List ℕ) (at : ℕ) (v t t' : List ℕ) → t ≡ placed s at v → t' ≡ placed s at v → t ≡ t'
 put_determined s at v t t' p q = p ∙ sym q

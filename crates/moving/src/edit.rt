@@ -1,21 +1,14 @@
 // Edits of a lent buffer in place. Where an edit does not fit, nothing changes.
-ghost use Rattle.std.specs.Prelude.{◌≡◌, replicate};
+// The places stand beside the buffer since `placed`, `lowered`, `raised` and `inserted` promise that at each place, fitting or not.
+ghost use Rattle.std.specs.Prelude.{◌≡◌, ◌+◌, leb, replicate};
 ghost use Rattle.moving.specs.Moving.{placed, lowered, raised, inserted};
 
 // The bytes of `v`, over those of `s` from `at`.
 pub fn put(s: &mut [u8], at: usize, v: &[u8])
     ensures { s.new ≡ placed s.old at v.now }
 {
-    if s.len() < at {
-        return;
-    }
-    if s.len() - at < v.len() {
-        return;
-    }
-    let mut i = 0;
-    while i < v.len() {
-        s[at + i] = v[i];
-        i += 1;
+    if fits(s.len(), at, v.len()) {
+        s[at..at + v.len()].copy_from_slice(v);
     }
 }
 
@@ -23,16 +16,8 @@ pub fn put(s: &mut [u8], at: usize, v: &[u8])
 pub fn clear(s: &mut [u8], at: usize, n: usize)
     ensures { s.new ≡ placed s.old at (replicate n 0) }
 {
-    if s.len() < at {
-        return;
-    }
-    if s.len() - at < n {
-        return;
-    }
-    let mut i = 0;
-    while i < n {
-        s[at + i] = 0;
-        i += 1;
+    if fits(s.len(), at, n) {
+        s[at..at + n].fill(0);
     }
 }
 
@@ -40,20 +25,8 @@ pub fn clear(s: &mut [u8], at: usize, n: usize)
 pub fn lower(s: &mut [u8], from: usize, to: usize, n: usize)
     ensures { s.new ≡ lowered s.old from to n }
 {
-    // At one place there is nothing to move.
-    if from <= to {
-        return;
-    }
-    if s.len() < from {
-        return;
-    }
-    if s.len() - from < n {
-        return;
-    }
-    let mut i = 0;
-    while i < n {
-        s[to + i] = s[from + i];
-        i += 1;
+    if to <= from && fits(s.len(), from, n) {
+        s.copy_within(from..from + n, to);
     }
 }
 
@@ -61,19 +34,8 @@ pub fn lower(s: &mut [u8], from: usize, to: usize, n: usize)
 pub fn raise(s: &mut [u8], at: usize, end: usize, n: usize)
     ensures { s.new ≡ raised s.old at end n }
 {
-    if end < at {
-        return;
-    }
-    if s.len() < end {
-        return;
-    }
-    if s.len() - end < n {
-        return;
-    }
-    let mut i = end;
-    while at < i {
-        i -= 1;
-        s[i + n] = s[i];
+    if at <= end && fits(s.len(), end, n) {
+        s.copy_within(at..end, at + n);
     }
 }
 
@@ -81,15 +43,15 @@ pub fn raise(s: &mut [u8], at: usize, end: usize, n: usize)
 pub fn insert(s: &mut [u8], at: usize, end: usize, v: &[u8])
     ensures { s.new ≡ inserted s.old at end v.now }
 {
-    if end < at {
-        return;
+    if at <= end && fits(s.len(), end, v.len()) {
+        raise(s, at, end, v.len());
+        put(s, at, v);
     }
-    if s.len() < end {
-        return;
-    }
-    if s.len() - end < v.len() {
-        return;
-    }
-    raise(s, at, end, v.len());
-    put(s, at, v);
+}
+
+// Whether `length` bytes have `n` from `at`.
+fn fits(length: usize, at: usize, n: usize) -> bool
+    ensures { result ≡ leb (at + n) length }
+{
+    at <= length && n <= length - at
 }

@@ -5,4 +5,4 @@ mod edit;
 mod number;
 
 pub use edit::{clear, insert, lower, put, raise};
-pub use number::{write16, write32, write64};
+pub use number::write;

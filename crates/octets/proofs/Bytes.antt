@@ -9,6 +9,10 @@ pub bytes_append : (xs ys : List ℕ) → Bytes xs → Bytes ys → Bytes (xs ++
 bytes_append [] ys hx hy = hy
 bytes_append (x ∷ xs) ys hx hy = (hx.0, bytes_append xs ys hx.1 hy)
 
+pub bytes_parts : (xs ys : List ℕ) → Bytes (xs ++ ys) → Bytes xs × Bytes ys
+bytes_parts [] ys h = (tt, h)
+bytes_parts (x ∷ xs) ys h = let rest = bytes_parts xs ys h.1 in ((h.0, rest.0), rest.1)
+
 pub bytes_take : (n : ℕ) (xs : List ℕ) → Bytes xs → Bytes (take n xs)
 bytes_take zero xs h = tt
 bytes_take (suc n) [] h = tt

@@ -3,6 +3,5 @@ pub mod Bytes
 pub mod Numbers
 pub mod Ordered
 pub mod Parts
-pub mod Joins
-pub mod Turns
+pub mod Words
 pub mod Pieces

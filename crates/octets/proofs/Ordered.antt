@@ -8,36 +8,38 @@ use native.Mathlib.Nat.{suc_inj, le_refl, le_of_lt, mul-le-mul_right, suc-mul}
 use native.Mathlib.Decide.{dec_lt}
 use native.Mathlib.Omega.{arith}
 use lib.ListN.{length}
-use borrow.Author.Tests.{le-ltb, lt-ltb}
-use Rattle.octets.specs.declared.order.Order.{Order}
-use Rattle.octets.specs.declared.order.Order.TheVariants.{Less, Same, More}
+use borrow.Author.Tests.{le-ltb, lt-ltb, eq-eqb, ne_eqb}
+use Rattle.std.specs.declared.cmp.Ordering.{Ordering}
+use Rattle.std.specs.declared.cmp.Ordering.TheVariants.{Less, Equal, Greater}
+use Rattle.std.specs.Ordering.{ordering_then, ordering_reverse, is_lt, is_eq, nat_cmp}
+use Rattle.std.specs.Cmp.Lexicographic.{slice_cmp}
 use Rattle.octets.specs.Bytes.{Bytes}
-use Rattle.octets.specs.Order.{number_order, and_then, turned, byte_order, is_less, is_same}
+use Rattle.octets.specs.Order.{number_order, byte_order}
 use Rattle.octets.specs.Number.{big}
 use Rattle.octets.proofs.Numbers.{big_lt, big_cons}
 
 -- the three answers differ
 
-pub less_not_same : Less ≡ Same → ⊥
+pub less_not_same : Less ≡ Equal → ⊥
 less_not_same e = let z : ◌≡◌ {A = ℕ} 0 1 = cc in omega arith
 
-pub less_not_more : Less ≡ More → ⊥
+pub less_not_more : Less ≡ Greater → ⊥
 less_not_more e = let z : ◌≡◌ {A = ℕ} 0 1 = cc in omega arith
 
-pub more_not_same : More ≡ Same → ⊥
+pub more_not_same : Greater ≡ Equal → ⊥
 more_not_same e = let z : ◌≡◌ {A = ℕ} 0 1 = cc in omega arith
 
 -- and a test for one of them tells it
 
-pub is_less_lem : (o : Order) → is_less o ≡ true → o ≡ Less
+pub is_less_lem : (o : Ordering) → is_lt o ≡ true → o ≡ Less
 is_less_lem Less e = refl
-is_less_lem Same e = absurd (false≢true e)
-is_less_lem More e = absurd (false≢true e)
+is_less_lem Equal e = absurd (false≢true e)
+is_less_lem Greater e = absurd (false≢true e)
 
-pub is_same_lem : (o : Order) → is_same o ≡ true → o ≡ Same
+pub is_same_lem : (o : Ordering) → is_eq o ≡ true → o ≡ Equal
 is_same_lem Less e = absurd (false≢true e)
-is_same_lem Same e = refl
-is_same_lem More e = absurd (false≢true e)
+is_same_lem Equal e = refl
+is_same_lem Greater e = absurd (false≢true e)
 
 -- numbers
 
@@ -53,10 +55,10 @@ module _ (x y : ℕ) where
   pub number_less : x < y → number_order x y ≡ Less
   number_less h = rw (lt-ltb x y h)
 
-  pub number_same : x ≡ y → number_order x y ≡ Same
+  pub number_same : x ≡ y → number_order x y ≡ Equal
   number_same e = rw (e, le-ltb y y (le_refl y))
 
-  pub number_more : y < x → number_order x y ≡ More
+  pub number_more : y < x → number_order x y ≡ Greater
   number_more h = rw (le-ltb x y (le_of_lt h), lt-ltb y x h)
 
   pub less_number : number_order x y ≡ Less → x < y
@@ -67,7 +69,7 @@ module _ (x y : ℕ) where
       go (inr (inl h)) = absurd (less_not_same (sym e ∙ number_same h))
       go (inr (inr h)) = absurd (less_not_more (sym e ∙ number_more h))
 
-  pub same_number : number_order x y ≡ Same → x ≡ y
+  pub same_number : number_order x y ≡ Equal → x ≡ y
   same_number e = go (compared x y)
     where
       go : (x < y) ⊎ ((x ≡ y) ⊎ (y < x)) → x ≡ y
@@ -75,13 +77,13 @@ module _ (x y : ℕ) where
       go (inr (inl h)) = h
       go (inr (inr h)) = absurd (more_not_same (sym (number_more h) ∙ e))
 
-pub number_turned : (x y : ℕ) → number_order y x ≡ turned (number_order x y)
+pub number_turned : (x y : ℕ) → number_order y x ≡ ordering_reverse (number_order x y)
 number_turned x y = go (compared x y)
   where
-    go : (x < y) ⊎ ((x ≡ y) ⊎ (y < x)) → number_order y x ≡ turned (number_order x y)
-    go (inl h) = number_more y x h ∙ ap turned (sym (number_less x y h))
-    go (inr (inl h)) = number_same y x (sym h) ∙ ap turned (sym (number_same x y h))
-    go (inr (inr h)) = number_less y x h ∙ ap turned (sym (number_more x y h))
+    go : (x < y) ⊎ ((x ≡ y) ⊎ (y < x)) → number_order y x ≡ ordering_reverse (number_order x y)
+    go (inl h) = number_more y x h ∙ ap ordering_reverse (sym (number_less x y h))
+    go (inr (inl h)) = number_same y x (sym h) ∙ ap ordering_reverse (sym (number_same x y h))
+    go (inr (inr h)) = number_less y x h ∙ ap ordering_reverse (sym (number_more x y h))
 
 pub number_add : (c x y : ℕ) → number_order (c + x) (c + y) ≡ number_order x y
 number_add c x y = go (compared x y)
@@ -91,36 +93,53 @@ number_add c x y = go (compared x y)
     go (inr (inl h)) = number_same (c + x) (c + y) (omega arith) ∙ sym (number_same x y h)
     go (inr (inr h)) = number_more (c + x) (c + y) (omega arith) ∙ sym (number_more x y h)
 
+-- std compares numbers and strings in the same order
+
+number_is_std : (x y : ℕ) → nat_cmp x y ≡ number_order x y
+number_is_std x y = go (compared x y)
+  where
+    go : (x < y) ⊎ ((x ≡ y) ⊎ (y < x)) → nat_cmp x y ≡ number_order x y
+    go (inl h) = rw (lt-ltb x y h)
+    go (inr (inl h)) = rw (h, le-ltb y y (le_refl y), eq-eqb y y refl)
+    go (inr (inr h)) = let n : x ≡ y → ⊥ = omega arith in rw (le-ltb x y (le_of_lt h), lt-ltb y x h, ne_eqb x y n)
+
+pub order_is_std : (a b : List ℕ) → slice_cmp nat_cmp a b ≡ byte_order a b
+unfolding byte_order
+order_is_std [] [] = refl
+order_is_std [] (y ∷ b) = refl
+order_is_std (x ∷ a) [] = refl
+order_is_std (x ∷ a) (y ∷ b) = rw (number_is_std x y, order_is_std a b)
+
 -- one order after another
 
-pub then_less : (o p : Order) → and_then o p ≡ Less → (o ≡ Less) ⊎ ((o ≡ Same) × (p ≡ Less))
+pub then_less : (o p : Ordering) → ordering_then o p ≡ Less → (o ≡ Less) ⊎ ((o ≡ Equal) × (p ≡ Less))
 then_less Less p e = inl refl
-then_less Same p e = inr (refl, e)
-then_less More p e = absurd (less_not_more (sym e))
+then_less Equal p e = inr (refl, e)
+then_less Greater p e = absurd (less_not_more (sym e))
 
-pub then_same : (o p : Order) → and_then o p ≡ Same → (o ≡ Same) × (p ≡ Same)
+pub then_same : (o p : Ordering) → ordering_then o p ≡ Equal → (o ≡ Equal) × (p ≡ Equal)
 then_same Less p e = absurd (less_not_same e)
-then_same Same p e = (refl, e)
-then_same More p e = absurd (more_not_same e)
+then_same Equal p e = (refl, e)
+then_same Greater p e = absurd (more_not_same e)
 
-pub then_turned : (o p : Order) → turned (and_then o p) ≡ and_then (turned o) (turned p)
+pub then_turned : (o p : Ordering) → ordering_reverse (ordering_then o p) ≡ ordering_then (ordering_reverse o) (ordering_reverse p)
 then_turned Less p = refl
-then_turned Same p = refl
-then_turned More p = refl
+then_turned Equal p = refl
+then_turned Greater p = refl
 
-pub then_then : (o p q : Order) → and_then (and_then o p) q ≡ and_then o (and_then p q)
+pub then_then : (o p q : Ordering) → ordering_then (ordering_then o p) q ≡ ordering_then o (ordering_then p q)
 then_then Less p q = refl
-then_then Same p q = refl
-then_then More p q = refl
+then_then Equal p q = refl
+then_then Greater p q = refl
 
 -- a strict total order
 
-pub order_self : (a : List ℕ) → byte_order a a ≡ Same
+pub order_self : (a : List ℕ) → byte_order a a ≡ Equal
 unfolding byte_order
 order_self [] = refl
 order_self (x ∷ a) = rw (number_same x x refl, order_self a)
 
-pub same_equal : (a b : List ℕ) → byte_order a b ≡ Same → a ≡ b
+pub same_equal : (a b : List ℕ) → byte_order a b ≡ Equal → a ≡ b
 unfolding byte_order
 same_equal [] [] e = refl
 same_equal [] (y ∷ b) e = absurd (less_not_same e)
@@ -129,7 +148,7 @@ same_equal (x ∷ a) (y ∷ b) e =
     let both = then_same (number_order x y) (byte_order a b) e in
     λ k. same_number x y both.0 k ∷ same_equal a b both.1 k
 
-pub order_turned : (a b : List ℕ) → byte_order b a ≡ turned (byte_order a b)
+pub order_turned : (a b : List ℕ) → byte_order b a ≡ ordering_reverse (byte_order a b)
 unfolding byte_order
 order_turned [] [] = refl
 order_turned [] (y ∷ b) = refl
@@ -146,10 +165,10 @@ less_trans (x ∷ a) (y ∷ b) [] e f = absurd (less_not_more (sym f))
 less_trans (x ∷ a) (y ∷ b) (z ∷ c) e f =
     go (then_less (number_order x y) (byte_order a b) e) (then_less (number_order y z) (byte_order b c) f) (less_trans a b c)
   where
-    go : (number_order x y ≡ Less) ⊎ ((number_order x y ≡ Same) × (byte_order a b ≡ Less))
-        → (number_order y z ≡ Less) ⊎ ((number_order y z ≡ Same) × (byte_order b c ≡ Less))
+    go : (number_order x y ≡ Less) ⊎ ((number_order x y ≡ Equal) × (byte_order a b ≡ Less))
+        → (number_order y z ≡ Less) ⊎ ((number_order y z ≡ Equal) × (byte_order b c ≡ Less))
         → (byte_order a b ≡ Less → byte_order b c ≡ Less → byte_order a c ≡ Less)
-        → and_then (number_order x z) (byte_order a c) ≡ Less
+        → ordering_then (number_order x z) (byte_order a c) ≡ Less
     go (inl h) (inl k) rest = rw (number_less x z (omega (arith, less_number x y h, less_number y z k)))
     go (inl h) (inr k) rest = rw (number_less x z (omega (arith, less_number x y h, same_number y z k.0)))
     go (inr h) (inl k) rest = rw (number_less x z (omega (arith, same_number x y h.0, less_number y z k)))
@@ -159,14 +178,14 @@ less_trans (x ∷ a) (y ∷ b) (z ∷ c) e f =
 pub order_total : (a b : List ℕ) → (byte_order a b ≡ Less) ⊎ ((a ≡ b) ⊎ (byte_order b a ≡ Less))
 order_total a b = go (byte_order a b) refl
   where
-    go : (o : Order) → byte_order a b ≡ o → (byte_order a b ≡ Less) ⊎ ((a ≡ b) ⊎ (byte_order b a ≡ Less))
+    go : (o : Ordering) → byte_order a b ≡ o → (byte_order a b ≡ Less) ⊎ ((a ≡ b) ⊎ (byte_order b a ≡ Less))
     go Less e = inl e
-    go Same e = inr (inl (same_equal a b e))
-    go More e = inr (inr (order_turned a b ∙ ap turned e))
+    go Equal e = inr (inl (same_equal a b e))
+    go Greater e = inr (inr (order_turned a b ∙ ap ordering_reverse e))
 
 -- joined strings, and their numbers
 
-pub order_append : (xs ys s t : List ℕ) → length xs ≡ length ys → byte_order (xs ++ s) (ys ++ t) ≡ and_then (byte_order xs ys) (byte_order s t)
+pub order_append : (xs ys s t : List ℕ) → length xs ≡ length ys → byte_order (xs ++ s) (ys ++ t) ≡ ordering_then (byte_order xs ys) (byte_order s t)
 unfolding byte_order
 order_append [] [] s t e = refl
 order_append [] (y ∷ ys) s t e = absurd (omega arith)
@@ -191,7 +210,7 @@ order_number (x ∷ xs) [] e hx hy = absurd (omega arith)
 order_number (x ∷ xs) (y ∷ ys) e hx hy = go (compared x y) (order_number xs ys (suc_inj e) hx.1 hy.1)
   where
     go : (x < y) ⊎ ((x ≡ y) ⊎ (y < x)) → byte_order xs ys ≡ number_order (big xs) (big ys)
-        → and_then (number_order x y) (byte_order xs ys) ≡ number_order (big (x ∷ xs)) (big (y ∷ ys))
+        → ordering_then (number_order x y) (byte_order xs ys) ≡ number_order (big (x ∷ xs)) (big (y ∷ ys))
     go (inl h) rest = rw (number_less x y h, number_less _ _ (above x y xs ys (suc_inj e) hx.1 h))
     go (inr (inr h)) rest = rw (number_more x y h, number_more _ _ (above y x ys xs (sym (suc_inj e)) hy.1 h))
     go (inr (inl h)) rest =

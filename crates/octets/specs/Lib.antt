@@ -2,5 +2,6 @@
 pub mod Bytes
 pub mod Order
 pub mod Number
+pub mod Written
 pub mod Pieces
 pub mod Determined

@@ -1,10 +1,10 @@
 -- A fresh book's bytes, written one part after another.
 use mathlib.Core.Path.{◌≡◌, refl, sym, ap, ◌∙◌}
-use mathlib.Core.List.{List, [], ◌∷◌, ◌++◌, append-nil}
+use mathlib.Core.List.{List, [], ◌∷◌, ◌++◌}
 use Prim.Native.Nat.{ℕ, ◌+◌, ◌*◌, ◌≤◌}
-use native.Mathlib.Nat.{zero-add, sub-zero, le_of_eq}
+use native.Mathlib.Nat.{sub-zero}
 use native.Mathlib.Omega.{arith}
-use lib.ListN.{length, set, replicate, length-append, length-replicate, replicate-append-replicate, drop_of_length-le}
+use lib.ListN.{length, set, replicate, length-append, replicate-append-replicate}
 use Rattle.octets.specs.Number.{bytes_of}
 use Rattle.moving.specs.Moving.{over, placed}
 use Rattle.octets.proofs.Numbers.{length_bytes_of}
@@ -14,15 +14,7 @@ use Rattle.book.specs.Book.{write}
 use Rattle.opening.specs.Open.{fresh_book}
 use Rattle.book.proofs.Headed.{over_middle}
 
--- a whole buffer cleared
-cleared : (s : List ℕ) → placed s 0 (replicate (length s) 0) ≡ replicate (length s) 0
-unfolding over
-cleared s =
-    let e : length (replicate {A = ℕ} (length s) 0) ≡ length s = length-replicate (length s) 0 in
-    placed_fits s 0 (replicate (length s) 0) (omega arith)
-    ∙ rw (e, zero-add (length s), drop_of_length-le s (le_of_eq refl)) (append-nil (replicate (length s) 0))
-
--- its parts
+-- the parts of a cleared buffer
 parts : (n : ℕ) → replicate {A = ℕ} (48 + n) 0 ≡ replicate 8 0 ++ (replicate 32 0 ++ (replicate 4 0 ++ (replicate 4 0 ++ replicate n 0)))
 parts n =
     let e : 48 + n ≡ 8 + (32 + (4 + (4 + n))) = omega arith in
@@ -37,14 +29,14 @@ module _ (overlay : List ℕ) (capacity starting : ℕ) (o : length overlay ≡ 
   behind = replicate 4 0 ++ (replicate 4 0 ++ replicate (145 * capacity) 0)
 
   marked : (s : List ℕ) → length s ≡ 48 + 145 * capacity
-      → placed (placed s 0 (replicate (length s) 0)) 0 mark ≡ mark ++ (replicate 5 0 ++ (replicate 32 0 ++ behind))
+      → placed (replicate (length s) 0) 0 mark ≡ mark ++ (replicate 5 0 ++ (replicate 32 0 ++ behind))
   unfolding over
   marked s h =
-      rw (cleared s, h, parts (145 * capacity))
+      rw (h, parts (145 * capacity))
       (placed_fits (replicate 8 0 ++ (replicate 32 0 ++ behind)) 0 mark (omega arith))
 
   pub fresh_written : (s a b c d : List ℕ) → length s ≡ 48 + 145 * capacity
-      → a ≡ placed s 0 (replicate (length s) 0)
+      → a ≡ replicate (length s) 0
       → b ≡ placed a 0 mark
       → c ≡ placed (set (set (set b 4 1) 6 starting) 7 starting) 8 overlay
       → d ≡ placed c 40 (bytes_of 4 capacity)

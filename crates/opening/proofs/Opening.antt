@@ -6,8 +6,9 @@ use Prim.Native.Nat.{ℕ, ◌+◌, ◌*◌, ◌≤◌}
 use lib.Dec.{eqb}
 use lib.ListN.{length}
 use borrow.Author.Tests.{leb-true, eq-eqb, ne_eqb}
-use Rattle.opening.specs.declared.open.OpenAnswer.{OpenAnswer}
-use Rattle.opening.specs.declared.open.OpenAnswer.TheVariants.{Done, OutOfRange, WrongLength}
+use Rattle.std.specs.Prelude.{Result, Ok, Err}
+use Rattle.opening.specs.declared.open.OpenError.{OpenError}
+use Rattle.opening.specs.declared.open.OpenError.TheVariants.{OutOfRange, WrongLength}
 use Rattle.book.specs.Book.{write}
 use Rattle.opening.specs.Open.{in_range, fresh_book, left, open_answer, open_bytes}
 use Rattle.book.proofs.Truths.{both, fails}
@@ -21,26 +22,26 @@ in_range_lem capacity starting e =
 
 module _ (s overlay : List ℕ) (capacity starting : ℕ) where
   -- the answer and the bytes
-  abbrev Ends : OpenAnswer → List ℕ → Type 0
+  abbrev Ends : Result (Unit {0}) OpenError → List ℕ → Type 0
   Ends a t = (a ≡ open_answer s overlay capacity starting) × (t ≡ open_bytes s overlay capacity starting)
 
-  ended : (a : OpenAnswer) → a ≡ open_answer s overlay capacity starting → Ends a (left a (fresh_book overlay capacity starting) s)
+  ended : (a : Result (Unit {0}) OpenError) → a ≡ open_answer s overlay capacity starting → Ends a (left a (fresh_book overlay capacity starting) s)
   unfolding open_bytes
-  ended a e = (e, ap (λ (b : OpenAnswer). left b (fresh_book overlay capacity starting) s) e)
+  ended a e = (e, ap (λ (b : Result (Unit {0}) OpenError). left b (fresh_book overlay capacity starting) s) e)
 
-  pub out_of_range : in_range capacity starting ≡ false → Ends OutOfRange s
+  pub out_of_range : in_range capacity starting ≡ false → Ends (Err OutOfRange) s
   unfolding open_answer
-  out_of_range e = ended OutOfRange (rw e)
+  out_of_range e = ended (Err OutOfRange) (rw e)
 
   module _ (r : in_range capacity starting ≡ true) where
-    pub overlay_wrong : (length overlay ≡ 32 → ⊥) → Ends WrongLength s
+    pub overlay_wrong : (length overlay ≡ 32 → ⊥) → Ends (Err WrongLength) s
     unfolding open_answer
-    overlay_wrong h = ended WrongLength (rw (r, ne_eqb (length overlay) 32 h))
+    overlay_wrong h = ended (Err WrongLength) (rw (r, ne_eqb (length overlay) 32 h))
 
-    pub buffer_wrong : (length s ≡ 48 + 145 * capacity → ⊥) → Ends WrongLength s
+    pub buffer_wrong : (length s ≡ 48 + 145 * capacity → ⊥) → Ends (Err WrongLength) s
     unfolding open_answer
-    buffer_wrong h = ended WrongLength (rw (r, fails (eqb (length overlay) 32) _ (ne_eqb (length s) (48 + 145 * capacity) h)))
+    buffer_wrong h = ended (Err WrongLength) (rw (r, fails (eqb (length overlay) 32) _ (ne_eqb (length s) (48 + 145 * capacity) h)))
 
-    pub opens : length overlay ≡ 32 → length s ≡ 48 + 145 * capacity → Ends Done (write (fresh_book overlay capacity starting))
+    pub opens : length overlay ≡ 32 → length s ≡ 48 + 145 * capacity → Ends (Ok tt) (write (fresh_book overlay capacity starting))
     unfolding open_answer
-    opens h k = ended Done (rw (r, eq-eqb (length overlay) 32 h, eq-eqb (length s) (48 + 145 * capacity) k))
+    opens h k = ended (Ok tt) (rw (r, eq-eqb (length overlay) 32 h, eq-eqb (length s) (48 + 145 * capacity) k))

@@ -6,7 +6,7 @@ mod rows;
 ghost use Rattle.std.specs.Prelude.{◌≡◌};
 ghost use Rattle.permutation.specs.Permutation.{once, permute};
 
-use rows::{column_parities, row0, row1, row2, row3, row4};
+use rows::{column_parities, row};
 use tables::round_constants;
 
 // A round whose constant is rc.
@@ -14,11 +14,11 @@ fn round(a: [u64; 25], rc: u64) -> [u64; 25]
     ensures { result ≡ once rc a }
 {
     let d = column_parities(a);
-    let p = row0(a, d);
-    let q = row1(a, d);
-    let r = row2(a, d);
-    let s = row3(a, d);
-    let t = row4(a, d);
+    let p = row::<0>(a, d);
+    let q = row::<1>(a, d);
+    let r = row::<2>(a, d);
+    let s = row::<3>(a, d);
+    let t = row::<4>(a, d);
     [
         p[0] ^ rc,
         p[1],
@@ -52,10 +52,9 @@ fn round(a: [u64; 25], rc: u64) -> [u64; 25]
 pub fn permute(start: [u64; 25]) -> [u64; 25]
     ensures { result ≡ permute start }
 {
-    let table = round_constants();
     let mut a = start;
-    for i in 0..24 {
-        let b = round(a, table[i]);
+    for rc in round_constants() {
+        let b = round(a, rc);
         a = b;
     }
     a

@@ -1,18 +1,20 @@
--- What the rules ask of the list, and of a batch that was found.
-use mathlib.Core.Path.{◌≡◌, sym, ap, ◌∙◌}
-use mathlib.Core.Bool.{Bool, true}
+-- What the rules ask of two strings of bytes.
+use mathlib.Core.Path.{◌≡◌, refl, sym, ap, ◌∙◌}
+use mathlib.Core.Bool.{Bool, true, false, false≢true}
 use mathlib.Core.List.{List}
 use Prim.Native.Nat.{ℕ}
-use native.Mathlib.Nat.{pos_of_ne-zero}
-use lib.ListN.{length, take}
-use lib.Seq.{take-length}
-use Rattle.batches.specs.Batch.{Whole, records, well_listed, find}
-use Rattle.batches.proofs.Listed.{well_listed_sound}
-use Rattle.postage.proofs.Search.{find_found}
+use lib.Dec.{eqb}
+use lib.Pointwise.{pointwise, bytes_decides}
+use Rattle.std.specs.Ordering.{is_eq}
+use Rattle.octets.specs.Order.{byte_order}
+use Rattle.octets.proofs.Ordered.{is_same_lem, order_self, same_equal}
 
--- as far as its end a list is all there
-pub to_end : (list : List ℕ) (r : Bool) → r ≡ well_listed (take (length list) list) → well_listed list ≡ r
-to_end list r e = sym (e ∙ ap well_listed (take-length list))
-
-pub held : (list id batch : List ℕ) → well_listed list ≡ true → batch ≡ find id (records list) → (length batch ≡ 0 → ⊥) → Whole batch
-held list id batch w is h = rw is (find_found list id (well_listed_sound list w) (rw (← is) (pos_of_ne-zero h))).0
+-- std tells them equal just where the order does
+pub told_equal : (a b : List ℕ) → pointwise eqb a b ≡ is_eq (byte_order a b)
+told_equal a b = go (pointwise eqb a b) (is_eq (byte_order a b)) refl refl
+  where
+    go : (p q : Bool) → pointwise eqb a b ≡ p → is_eq (byte_order a b) ≡ q → p ≡ q
+    go true true e f = refl
+    go false false e f = refl
+    go true false e f = absurd (false≢true (sym f ∙ ap is_eq (ap (byte_order a) (sym ((bytes_decides a b).0 e)) ∙ order_self a)))
+    go false true e f = absurd (false≢true (sym e ∙ (bytes_decides a b).1 (same_equal a b (is_same_lem (byte_order a b) f))))

@@ -3,13 +3,19 @@ use mathlib.Core.Path.{◌≡◌, refl, sym, ap, ◌∙◌}
 use mathlib.Core.Bool.{Bool, true, false, cond, false≢true}
 use mathlib.Core.Logic.{◌⊎◌, inl, inr}
 use mathlib.Core.List.{List, [], ◌∷◌}
-use Prim.Native.Nat.{ℕ, zero, suc, ◌+◌, ◌≤◌, ◌<◌}
+use Prim.Native.Nat.{ℕ, zero, suc, ◌≤◌, ◌<◌}
 use native.Mathlib.Nat.{eq-or-lt_of_le}
 use native.Mathlib.Omega.{arith}
 use lib.ListN.{length, get_or}
-use Rattle.octets.specs.declared.order.Order.TheVariants.{Less, More}
-use Rattle.octets.specs.Order.{byte_order, turned, is_same}
-use Rattle.octets.proofs.Ordered.{is_same_lem, compared, less_not_same, less_trans, order_self, same_equal, order_turned}
+use Rattle.std.specs.declared.cmp.Ordering.{Ordering}
+use Rattle.std.specs.declared.cmp.Ordering.TheVariants.{Less, Equal, Greater}
+use Rattle.std.specs.Prelude.{Result, Ok, Err, Option, MatchOption}
+use Rattle.std.specs.Result.{result_ok}
+use Rattle.std.specs.List.{HoldsAt}
+use Rattle.std.specs.List.Sorted.{IsNonDecreasingBy, IsPartitionPoint, IsSearchInRange, IsBinarySearchResult}
+use Rattle.std.specs.Ordering.{ordering_index, is_eq}
+use Rattle.octets.specs.Order.{byte_order}
+use Rattle.octets.proofs.Ordered.{is_same_lem, compared, less_not_same, more_not_same, less_trans, order_self, same_equal}
 use Rattle.batches.specs.Batch.{id_of, count, batch_at, Whole, WellListed, Listed, records, find}
 use Rattle.batches.proofs.Records.{length_records, records_at, length_batch_at}
 
@@ -24,16 +30,22 @@ Cases batches id found = (((i : ℕ) → Has batches id i → ⊥) × (found ≡
 cases : (id : List ℕ) (batches : List (List ℕ)) → Cases batches id (find id batches)
 unfolding find
 cases id [] = inl ((λ i h. omega arith), refl)
-cases id (batch ∷ rest) = go (is_same (byte_order (id_of batch) id)) refl (cases id rest)
+cases id (batch ∷ rest) = go (is_eq (byte_order (id_of batch) id)) refl (cases id rest)
   where
-    go : (b : Bool) → is_same (byte_order (id_of batch) id) ≡ b → Cases rest id (find id rest) → Cases (batch ∷ rest) id (cond b batch (find id rest))
+    go : (b : Bool) → is_eq (byte_order (id_of batch) id) ≡ b → Cases rest id (find id rest) → Cases (batch ∷ rest) id (cond b batch (find id rest))
     go true q r = inr (0, ((omega arith, same_equal (id_of batch) id (is_same_lem (byte_order (id_of batch) id) q)), refl))
     go false q (inr r) = inr (suc r.0, ((omega (arith, r.1.0.0), r.1.0.1), r.1.1))
     go false q (inl r) = inl (none, r.1)
       where
         none : (i : ℕ) → Has (batch ∷ rest) id i → ⊥
-        none zero h = false≢true (sym q ∙ ap is_same (ap (λ (l : List ℕ). byte_order l id) h.1 ∙ order_self id))
+        none zero h = false≢true (sym q ∙ ap is_eq (ap (λ (l : List ℕ). byte_order l id) h.1 ∙ order_self id))
         none (suc i) h = r.0 i (omega (arith, h.0), h.1)
+
+-- within a list it does not matter what stands for what lies outside
+get_or-any : (xs : List (List ℕ)) (i : ℕ) (d e : List ℕ) → i < length xs → get_or xs i d ≡ get_or xs i e
+get_or-any [] i d e h = absurd (omega arith)
+get_or-any (x ∷ xs) zero d e h = refl
+get_or-any (x ∷ xs) (suc i) d e h = get_or-any xs i d e (omega arith)
 
 module _ (list id : List ℕ) where
   -- where no record has the id there are no bytes, and otherwise they are those of one that has it
@@ -55,17 +67,6 @@ module _ (list id : List ℕ) where
       go (inl r) = r.1
       go (inr r) = absurd (f r.0)
 
-  -- what is found is a record as it should be, with the id
-  pub find_found : WellListed list → 0 < length (find id (records list)) → Whole (find id (records list)) × (id_of (find id (records list)) ≡ id)
-  find_found w h = go find_cases
-    where
-      go : ((Listed list id → ⊥) × (find id (records list) ≡ [])) ⊎ ((at : Listed list id) × (find id (records list) ≡ batch_at list at.0))
-          → Whole (find id (records list)) × (id_of (find id (records list)) ≡ id)
-      go (inl r) = absurd (omega (arith, ap length r.1))
-      go (inr r) =
-          let at = r.0 in
-          rw r.1 (record { all_there = length_batch_at list at.0 at.1; is_fit = w.all_fit at.0 at.1 }, at.2)
-
   -- in a well-formed list the record with the id is the one found
   pub find_held : WellListed list → (i : ℕ) → i < count list → id_of (batch_at list i) ≡ id → find id (records list) ≡ batch_at list i
   find_held w i h e = go find_cases
@@ -83,42 +84,60 @@ module _ (list id : List ℕ) where
       go (inl r) = absurd (r.0 (i, h, e))
       go (inr r) = let at = r.0 in r.1 ∙ one at.0 at.1 at.2 (compared at.0 i)
 
-  -- ---- halving: the records below `low` have lesser ids, those from `high` on greater ones
+  -- ---- halving
 
-  pub record Between (low high : ℕ) : Type 0 where
-    pub lesser : (i : ℕ) → i < low → byte_order (id_of (batch_at list i)) id ≡ Less
-    pub greater : (i : ℕ) → high ≤ i → i < count list → byte_order id (id_of (batch_at list i)) ≡ Less
+  abbrev pub told : List ℕ → Ordering
+  told batch = byte_order (id_of batch) id
 
-  pub between_start : Between 0 (count list)
-  between_start = record { lesser = λ i h. absurd (omega arith); greater = λ i h k. absurd (omega arith) }
-
-  pub between_above : WellListed list → (low high m : ℕ) → m < count list → Between low high → byte_order (id_of (batch_at list m)) id ≡ Less → Between (m + 1) high
-  between_above w low high m h b e = record { lesser = λ i k. go i (eq-or-lt_of_le (up_to i k)); greater = b.greater }
+  -- in a well-formed list what the records' ids are to this one rises
+  rising : WellListed list → IsNonDecreasingBy (λ batch. ordering_index (told batch)) (records list)
+  rising w i j d h k = rw (at_place i (omega (arith, length_records list)), at_place j (omega (arith, length_records list))) (go (eq-or-lt_of_le h))
     where
-      up_to : (i : ℕ) → i < m + 1 → i ≤ m
-      up_to i k = omega arith
+      at_place : (m : ℕ) → m < count list → get_or (records list) m d ≡ batch_at list m
+      at_place m l = get_or-any (records list) m d [] (omega (arith, length_records list)) ∙ records_at list m l
 
-      go : (i : ℕ) → (i ≡ m) ⊎ (i < m) → byte_order (id_of (batch_at list i)) id ≡ Less
-      go i (inl p) = rw p e
-      go i (inr p) = less_trans (id_of (batch_at list i)) (id_of (batch_at list m)) id (w.ascending i m p h) e
+      -- of two ids the lesser one is not above what the greater one is below
+      risen : (o p : Ordering) → (p ≡ Less → o ≡ Less) → (p ≡ Equal → o ≡ Less) → ordering_index o ≤ ordering_index p
+      risen o Less l e = rw (l refl) (omega arith)
+      risen o Equal l e = rw (e refl) (omega arith)
+      risen Less Greater l e = omega arith
+      risen Equal Greater l e = omega arith
+      risen Greater Greater l e = omega arith
 
-  pub between_below : WellListed list → (low high m : ℕ) → m < count list → Between low high → byte_order (id_of (batch_at list m)) id ≡ More → Between low m
-  between_below w low high m h b e = record { lesser = b.lesser; greater = λ i k l. go i l (eq-or-lt_of_le k) }
+      go : (i ≡ j) ⊎ (i < j) → ordering_index (told (batch_at list i)) ≤ ordering_index (told (batch_at list j))
+      go (inl e) = rw e (omega arith)
+      go (inr l) =
+          let up = w.ascending i j l (omega (arith, length_records list)) in
+          risen (told (batch_at list i)) (told (batch_at list j)) (less_trans (id_of (batch_at list i)) (id_of (batch_at list j)) id up)
+          (λ e. ap (byte_order (id_of (batch_at list i))) (sym (same_equal (id_of (batch_at list j)) id e)) ∙ up)
+
+  -- so a record that halving comes to is the one found
+  halved_to : WellListed list → (i : ℕ) → i < length (records list) → HoldsAt (λ batch. told batch ≡ Equal) (records list) i → Whole (get_or (records list) i []) × (get_or (records list) i [] ≡ find id (records list))
+  halved_to w i h e =
+      let k : i < count list = omega (arith, length_records list) in
+      let at = records_at list i k in
+      (rw at (record { all_there = length_batch_at list i k; is_fit = w.all_fit i k }), at ∙ sym (find_held w i k (same_equal (id_of (batch_at list i)) id (rw at at (e [])))))
+
+  -- and where it comes to none there is none
+  halved_out : WellListed list → (i : ℕ)
+      → (IsNonDecreasingBy (λ batch. ordering_index (told batch)) (records list) → IsPartitionPoint (λ batch. told batch ≡ Less) (λ batch. told batch ≡ Greater) (records list) i)
+      → find id (records list) ≡ []
+  halved_out w i p = find_absent (λ at. go at.0 at.1 at.2 (compared at.0 i))
     where
-      less : byte_order id (id_of (batch_at list m)) ≡ Less
-      less = order_turned (id_of (batch_at list m)) id ∙ ap turned e
+      off : (k : ℕ) → k < count list → id_of (batch_at list k) ≡ id → told (get_or (records list) k []) ≡ Equal
+      off k h e = ap told (records_at list k h) ∙ ap (λ (x : List ℕ). byte_order x id) e ∙ order_self id
 
-      go : (i : ℕ) → i < count list → (m ≡ i) ⊎ (m < i) → byte_order id (id_of (batch_at list i)) ≡ Less
-      go i l (inl p) = rw (← p) less
-      go i l (inr p) = less_trans id (id_of (batch_at list m)) (id_of (batch_at list i)) less (w.ascending m i p l)
+      go : (k : ℕ) → k < count list → id_of (batch_at list k) ≡ id → (k < i) ⊎ ((k ≡ i) ⊎ (i < k)) → ⊥
+      go k h e (inl l) = less_not_same (sym ((p (rising w)).0 k [] (omega arith) l) ∙ off k h e)
+      go k h e (inr (inl l)) = more_not_same (sym ((p (rising w)).1 k [] (omega arith) (omega (arith, length_records list))) ∙ off k h e)
+      go k h e (inr (inr l)) = more_not_same (sym ((p (rising w)).1 k [] (omega arith) (omega (arith, length_records list))) ∙ off k h e)
 
-  pub between_none : (low high : ℕ) → high ≤ low → Between low high → find id (records list) ≡ []
-  between_none low high h b = find_absent (λ at. go at.0 at.1 at.2 (compared at.0 low))
+  -- what the code has of it: the records as chunks, and the place as an option
+  pub halved : WellListed list → (r : Result ℕ ℕ) (place : Option ℕ) → place ≡ result_ok r → (chunks : List (List ℕ)) → chunks ≡ records list → IsSearchInRange r (length chunks) → IsBinarySearchResult told chunks r
+      → MatchOption place (find id (records list) ≡ []) (λ i. Whole (get_or chunks i []) × (get_or chunks i [] ≡ find id (records list)))
+  halved w r place p chunks e = rw (p, e) (go r)
     where
-      lost : (i : ℕ) → id_of (batch_at list i) ≡ id → byte_order id (id_of (batch_at list i)) ≡ Less → ⊥
-      lost i e f = less_not_same (sym f ∙ ap (byte_order id) e ∙ order_self id)
-
-      go : (i : ℕ) → i < count list → id_of (batch_at list i) ≡ id → (i < low) ⊎ ((i ≡ low) ⊎ (low < i)) → ⊥
-      go i k e (inl l) = less_not_same (sym (b.lesser i l) ∙ ap (λ (x : List ℕ). byte_order x id) e ∙ order_self id)
-      go i k e (inr (inl l)) = lost i e (b.greater i (omega arith) k)
-      go i k e (inr (inr l)) = lost i e (b.greater i (omega arith) k)
+      go : (r : Result ℕ ℕ) → IsSearchInRange r (length (records list)) → IsBinarySearchResult told (records list) r
+          → MatchOption (result_ok r) (find id (records list) ≡ []) (λ i. Whole (get_or (records list) i []) × (get_or (records list) i [] ≡ find id (records list)))
+      go (Ok i) b h = halved_to w i b h
+      go (Err i) b h = halved_out w i h

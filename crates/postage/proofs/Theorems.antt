@@ -8,11 +8,11 @@ use lib.ListN.{length, take}
 use Rattle.octets.specs.Bytes.{Bytes}
 use Rattle.nearness.specs.Bits.{bits, bits_of, shared_bits}
 use Rattle.nearness.proofs.Shared.{same_start, together}
-use Rattle.postage.specs.declared.rules.StampAnswer.{StampAnswer}
-use Rattle.postage.specs.declared.rules.StampAnswer.TheVariants.{Passes}
+use Rattle.std.specs.Prelude.{Result}
+use Rattle.postage.specs.declared.rules.StampError.{StampError}
 use Rattle.batches.specs.Batch.{id_of, count, batch_at, WellListed, Listed, records, find}
 use Rattle.postage.specs.Stamp.{batch_in, index_in, slot_in, bucket_of, Bucketed}
-use Rattle.postage.specs.Rules.{checked}
+use Rattle.postage.specs.Rules.{Passes, checked}
 use Rattle.postage.specs.InOrder.{Kept, Given}
 use Rattle.batches.proofs.Records.{length_batch_at}
 use Rattle.postage.proofs.Search.{find_cases, find_absent, find_held}
@@ -36,7 +36,7 @@ absent_exactly list id = (there (find_cases list id), find_absent list id)
 -- ---- the rules
 
 -- each answer is given exactly where its own rule is broken and all before it are kept: 15, 10, 16, 17, 18, 19, 0
-pub answers_in_order : (list address stamp account : List ℕ) (answer : StampAnswer) → (checked list address stamp account ≡ answer) ↔ Given (Kept list address stamp account) answer
+pub answers_in_order : (list address stamp account : List ℕ) (answer : Result (Unit {0}) StampError) → (checked list address stamp account ≡ answer) ↔ Given (Kept list address stamp account) answer
 answers_in_order = in_order
 
 -- a stamp that passes stands in its address's bucket, with an index that a book can hold

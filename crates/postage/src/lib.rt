@@ -4,4 +4,4 @@
 mod lookup;
 mod rules;
 
-pub use rules::{StampAnswer, check_stamp};
+pub use rules::{StampError, check_stamp};

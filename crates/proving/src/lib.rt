@@ -3,4 +3,4 @@
 
 mod making;
 
-pub use making::{ProofMade, make_anchored_proof, make_proof};
+pub use making::{MakeError, make_anchored_proof, make_proof};

@@ -1,15 +1,15 @@
 -- An answer of 1 or from 10 up is a refusal: it leaves every lent byte as it was, and hands back zeros for a commitment. The calls of
 -- books and the draw; those of chunks and stamps have their own in crates/chunk and crates/signing.
-use Rattle.std.specs.Prelude.{List, ◌≡◌, refl, ℕ, ◌≤◌, replicate}
+use Rattle.std.specs.Prelude.{Result, Ok, Err, List, ◌≡◌, refl, ℕ, ◌≤◌, replicate}
 use Rattle.std.proofs.Common.{inl, inr, ◌∙◌, sym, ap, subst, arith}
 use Rattle.octets.specs.Bytes.{Bytes}
 use Rattle.merkle.specs.Refusal.{Refusal}
-use Rattle.postage.specs.declared.rules.StampAnswer.{StampAnswer}
-use Rattle.postage.specs.declared.rules.StampAnswer.TheVariants.{Passes, BadList, WrongLength, NoBatch, OtherBucket, IndexPast, NotOwner}
+use Rattle.postage.specs.declared.rules.StampError.{StampError}
+use Rattle.postage.specs.declared.rules.StampError.TheVariants.{BadList, WrongLength, NoBatch, OtherBucket, IndexPast, NotOwner}
 use Rattle.postage.specs.Rules.{stamp_number, checked}
 use Rattle.settling.specs.Meaning.{Given, kept, dropped, bursts, already, outside, very, outranked}
-use Rattle.opening.specs.declared.open.OpenAnswer.{OpenAnswer}
-use Rattle.opening.specs.declared.open.OpenAnswer.TheVariants as Opening
+use Rattle.opening.specs.declared.open.OpenError.{OpenError}
+use Rattle.opening.specs.declared.open.OpenError.TheVariants as Opening
 use Rattle.opening.specs.Open.{open_answer, open_bytes, open_number}
 use Rattle.opening.specs.Determined.{open_refused}
 use Rattle.book.specs.Book.{read}
@@ -31,22 +31,22 @@ pub rkf_open_refused : (book overlay : List ℕ) (capacity starting : ℕ) (r : 
 rkf_open_refused book overlay capacity starting r t e f h =
     f ∙ open_refused book overlay capacity starting (from_ten (open_answer book overlay capacity starting) (subst Refusal e h))
   where
-    from_ten : (a : OpenAnswer) → Refusal (open_number a) → 10 ≤ open_number a
+    from_ten : (a : Result (Unit {0}) OpenError) → Refusal (open_number a) → 10 ≤ open_number a
     from_ten a (inr h) = h
-    from_ten Opening.Done (inl h) = absurd (omega arith)
-    from_ten Opening.OutOfRange (inl h) = absurd (omega arith)
-    from_ten Opening.WrongLength (inl h) = absurd (omega arith)
+    from_ten (Ok done) (inl h) = absurd (omega arith)
+    from_ten (Err Opening.OutOfRange) (inl h) = absurd (omega arith)
+    from_ten (Err Opening.WrongLength) (inl h) = absurd (omega arith)
 
 -- ---- an offer, which never answers 1
 
-stamped_not_one : (a : StampAnswer) → stamp_number a ≡ 1 → ⊥
-stamped_not_one Passes e = absurd (omega arith)
-stamped_not_one BadList e = absurd (omega arith)
-stamped_not_one WrongLength e = absurd (omega arith)
-stamped_not_one NoBatch e = absurd (omega arith)
-stamped_not_one OtherBucket e = absurd (omega arith)
-stamped_not_one IndexPast e = absurd (omega arith)
-stamped_not_one NotOwner e = absurd (omega arith)
+stamped_not_one : (a : Result (Unit {0}) StampError) → stamp_number a ≡ 1 → ⊥
+stamped_not_one (Ok done) e = absurd (omega arith)
+stamped_not_one (Err BadList) e = absurd (omega arith)
+stamped_not_one (Err WrongLength) e = absurd (omega arith)
+stamped_not_one (Err NoBatch) e = absurd (omega arith)
+stamped_not_one (Err OtherBucket) e = absurd (omega arith)
+stamped_not_one (Err IndexPast) e = absurd (omega arith)
+stamped_not_one (Err NotOwner) e = absurd (omega arith)
 
 module _ (batches book : List ℕ) (o : Offer) where
   settled_not_one : (n : ℕ) → Given (shape_of (read book)) (read book).state (record_of o.address o.stamp) n → n ≡ 1 → ⊥

@@ -7,6 +7,7 @@ ghost use Rattle.reserve.specs.Offer.{offered};
 ghost use Rattle.ramekinfold.specs.Part.{of_choice};
 
 use crate::chunks::Part;
+use answers::Numbered;
 use records::rank::Choice;
 
 #[unsafe(no_mangle)]
@@ -19,16 +20,14 @@ pub extern "C" fn rkf_open(
     ensures value { result ≡ open_number (open_answer book.old overlay.now capacity starting_depth) }
     ensures book_after { book.new ≡ open_bytes book.old overlay.now capacity starting_depth }
 {
-    let answer = opening::open::open(book, overlay, capacity, starting_depth);
-    answer.number()
+    opening::open::open(book, overlay, capacity, starting_depth).number()
 }
 
 #[unsafe(no_mangle)]
 pub extern "C" fn rkf_check_book(book: &[u8]) -> u32
     ensures { result ≡ book_number (checked book.now) }
 {
-    let answer = wellformed::check::check_book(book);
-    answer.number()
+    wellformed::check::check_book(book).number()
 }
 
 // A host in another language holds both records, and is told which one is meant.
@@ -63,6 +62,5 @@ pub extern "C" fn rkf_offer(
     ensures value { result ≡ (offered book.old batches.now address.now stamp.now account.now).number }
     ensures book_after { book.new ≡ (offered book.old batches.now address.now stamp.now account.now).bytes }
 {
-    let answer = reserve::offer::offer(book, batches, address, stamp, account);
-    answer.number()
+    reserve::offer::offer(book, batches, address, stamp, account).number()
 }

@@ -8,8 +8,8 @@ ghost use Rattle.merkle.specs.Proof.{proof_of};
 ghost use Rattle.ramekinfold.specs.Digested.{of_addressed};
 ghost use Rattle.ramekinfold.specs.Part.{part};
 
-use crate::hashing::Digested;
-use chunk::Addressed;
+use crate::hashing::{Digested, handed};
+use answers::Numbered;
 
 // A stretch of a lent buffer.
 #[repr(C)]
@@ -17,18 +17,6 @@ use chunk::Addressed;
 pub struct Part {
     pub start: u64,
     pub length: u64,
-}
-
-// An address as C holds it.
-fn handed(a: Addressed) -> Digested
-    ensures { result ≡ of_addressed a }
-{
-    let answer = a.answer;
-    let digest = a.digest;
-    Digested {
-        answer: answer.number(),
-        digest,
-    }
 }
 
 #[unsafe(no_mangle)]
@@ -70,14 +58,12 @@ pub extern "C" fn rkf_make_proof(span: &[u8], data: &[u8], index: u64, proof: &m
     ensures value { result ≡ made_number (made span.now «data».now index proof.old) }
     ensures proof_after { proof.new ≡ written (made span.now «data».now index proof.old) (proof_of [] span.now «data».now index) proof.old }
 {
-    let answer = proving::make_proof(span, data, index, proof);
-    answer.number()
+    proving::make_proof(span, data, index, proof).number()
 }
 
 #[unsafe(no_mangle)]
 pub extern "C" fn rkf_check_proof(address: &[u8], index: u64, proof: &[u8]) -> u32
     ensures { result ≡ checked_number (checked [] address.now index proof.now) }
 {
-    let answer = verifying::check_proof(address, index, proof);
-    answer.number()
+    verifying::check_proof(address, index, proof).number()
 }

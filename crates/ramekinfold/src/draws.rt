@@ -3,7 +3,9 @@ ghost use Rattle.std.specs.Prelude.{◌≡◌};
 ghost use Rattle.draw.specs.Draw.{drawn, sample_after};
 ghost use Rattle.ramekinfold.specs.Drawn.{of_drawn};
 
-// An answer of document 01, the place that it names, and the commitment, zeros on a refusal.
+use answers::Numbered;
+
+// An answer of document 01, the place that it names, and the commitment, zeros on a refusal: C has no Result.
 #[repr(C)]
 #[derive(Drop)]
 pub struct Drawn {
@@ -17,14 +19,10 @@ pub extern "C" fn rkf_draw(book: &[u8], shelf: &[u8], anchor: &[u8], sample: &mu
     ensures value { result ≡ of_drawn (drawn book.now shelf.now anchor.now sample.old) }
     ensures sample_after { sample.new ≡ sample_after book.now shelf.now anchor.now sample.old }
 {
-    let d = draw::draw(book, shelf, anchor, sample);
-    let answer = d.answer;
-    let commitment = d.commitment;
-    let number = answer.number();
-    let place = answer.place();
+    let drawn = draw::draw(book, shelf, anchor, sample);
     Drawn {
-        answer: number,
-        place,
-        commitment,
+        answer: drawn.number(),
+        place: draw::place(&drawn),
+        commitment: drawn.unwrap_or([0u8; 32]),
     }
 }

@@ -2,16 +2,27 @@
 ghost use Rattle.std.specs.Prelude.{◌≡◌};
 ghost use Rattle.keccak.specs.Hash.{keccak256};
 ghost use Rattle.keccak.specs.Sponge.{fresh, usable, absorbed, finished};
-ghost use Rattle.ramekinfold.specs.Digested.{digested};
+ghost use Rattle.ramekinfold.specs.Digested.{digested, of_digest};
 
+use answers::Numbered;
 use keccak::{Sponge, keccak256};
 
-// An answer of document 01 with a digest beside it, zeros on a refusal.
+// An answer of document 01 with a digest beside it, zeros on a refusal: C has no Result.
 #[repr(C)]
 #[derive(Drop)]
 pub struct Digested {
     pub answer: u32,
     pub digest: [u8; 32],
+}
+
+// What a call answers with a digest, as C holds it.
+pub(crate) fn handed<E: Numbered + Drop>(answer: Result<[u8; 32], E>) -> Digested
+    ensures { result ≡ of_digest E.number answer }
+{
+    Digested {
+        answer: answer.number(),
+        digest: answer.unwrap_or([0u8; 32]),
+    }
 }
 
 #[unsafe(no_mangle)]

@@ -3,7 +3,9 @@ ghost use Rattle.std.specs.Prelude.{◌≡◌};
 ghost use Rattle.nearness.specs.Near.{nearness_of};
 ghost use Rattle.ramekinfold.specs.Numbered.{of_near};
 
-// An answer of document 01 with a number beside it, 0 on a refusal.
+use answers::Numbered as _;
+
+// An answer of document 01 with a number beside it, 0 on a refusal: C has no Result.
 #[repr(C)]
 #[derive(Drop)]
 pub struct Numbered {
@@ -18,6 +20,6 @@ pub extern "C" fn rkf_nearness(first: &[u8], second: &[u8]) -> Numbered
     let near = nearness::near::nearness(first, second);
     Numbered {
         answer: near.number(),
-        number: near.bits(),
+        number: nearness::near::bits(near),
     }
 }

@@ -4,19 +4,14 @@ ghost use Rattle.signing.specs.Digest.{stamp_digest};
 ghost use Rattle.postage.specs.Rules.{stamp_number, checked};
 ghost use Rattle.ramekinfold.specs.Digested.{of_stamp_digested};
 
-use crate::hashing::Digested;
+use crate::hashing::{Digested, handed};
+use answers::Numbered;
 
 #[unsafe(no_mangle)]
 pub extern "C" fn rkf_stamp_digest(address: &[u8], stamp: &[u8]) -> Digested
     ensures { result ≡ of_stamp_digested (stamp_digest address.now stamp.now) }
 {
-    let d = signing::stamp_digest(address, stamp);
-    let answer = d.answer;
-    let digest = d.digest;
-    Digested {
-        answer: answer.number(),
-        digest,
-    }
+    handed(signing::stamp_digest(address, stamp))
 }
 
 #[unsafe(no_mangle)]
@@ -28,6 +23,5 @@ pub extern "C" fn rkf_check_stamp(
 ) -> u32
     ensures { result ≡ stamp_number (checked batches.now address.now stamp.now account.now) }
 {
-    let answer = postage::check_stamp(batches, address, stamp, account);
-    answer.number()
+    postage::check_stamp(batches, address, stamp, account).number()
 }

@@ -1,16 +1,17 @@
 -- The rank by three comparisons, of time, address and signature; and the choice that follows from it.
 use mathlib.Core.Path.{◌≡◌, refl, sym, ap, ◌∙◌}
 use mathlib.Core.List.{List, ◌++◌}
-use Prim.Native.Nat.{ℕ, ◌+◌}
+use Prim.Native.Nat.{ℕ}
 use native.Mathlib.Omega.{arith}
 use mathlib.Core.Bool.{Bool, true, false, cond, false≢true}
 use lib.Dec.{eqb}
 use lib.ListN.{length, take, drop}
 use lib.Seq.{take-add, take_all, drop-drop, length-take-le}
 use borrow.Author.Tests.{eqb-true, eq-eqb, ne_eqb}
-use Rattle.octets.specs.declared.order.Order.{Order}
-use Rattle.octets.specs.declared.order.Order.TheVariants.{Less, Same, More}
-use Rattle.octets.specs.Order.{byte_order, and_then, turned, is_less}
+use Rattle.std.specs.declared.cmp.Ordering.{Ordering}
+use Rattle.std.specs.declared.cmp.Ordering.TheVariants.{Less, Equal, Greater}
+use Rattle.std.specs.Ordering.{ordering_then, ordering_reverse, is_lt}
+use Rattle.octets.specs.Order.{byte_order}
 use Rattle.octets.specs.Bytes.{Bytes}
 use Rattle.octets.specs.Number.{big}
 use Rattle.octets.proofs.Bytes.{bytes_take}
@@ -23,15 +24,15 @@ use Rattle.records.specs.Rank.{rank_order, beats}
 use Rattle.records.specs.Order.{rank_turned}
 use Rattle.records.specs.Choice.{choice, preferred}
 
--- a last comparison that says Same wherever the others do adds nothing
-last_same : (o p q r : Order) → (o ≡ Same → p ≡ Same → q ≡ Same → r ≡ Same) → and_then (turned o) (and_then p (and_then q r)) ≡ and_then (turned o) (and_then p q)
+-- a last comparison that says Equal wherever the others do adds nothing
+last_same : (o p q r : Ordering) → (o ≡ Equal → p ≡ Equal → q ≡ Equal → r ≡ Equal) → ordering_then (ordering_reverse o) (ordering_then p (ordering_then q r)) ≡ ordering_then (ordering_reverse o) (ordering_then p q)
 last_same Less p q r h = refl
-last_same More p q r h = refl
-last_same Same Less q r h = refl
-last_same Same More q r h = refl
-last_same Same Same Less r h = refl
-last_same Same Same More r h = refl
-last_same Same Same Same r h = h refl refl refl
+last_same Greater p q r h = refl
+last_same Equal Less q r h = refl
+last_same Equal Greater q r h = refl
+last_same Equal Equal Less r h = refl
+last_same Equal Equal Greater r h = refl
+last_same Equal Equal Equal r h = h refl refl refl
 
 whole : (a : List ℕ) → length a ≡ 145 → a ≡ take 40 a ++ (time_in a ++ (address_in a ++ signature_in a))
 whole a h =
@@ -41,29 +42,24 @@ whole a h =
     ∙ ap (λ (t : List ℕ). take 40 a ++ t) (one ∙ rw (drop-drop 8 40 a, two, drop-drop 32 48 a))
 
 module _ (a b : List ℕ) (size-a : length a ≡ 145) (size-b : length b ≡ 145) (one-slot : take 40 a ≡ take 40 b) where
-  equal : byte_order (time_in a) (time_in b) ≡ Same → byte_order (address_in a) (address_in b) ≡ Same → byte_order (signature_in a) (signature_in b) ≡ Same → a ≡ b
+  equal : byte_order (time_in a) (time_in b) ≡ Equal → byte_order (address_in a) (address_in b) ≡ Equal → byte_order (signature_in a) (signature_in b) ≡ Equal → a ≡ b
   equal t x y =
       let t' = same_equal (time_in a) (time_in b) t in
       let x' = same_equal (address_in a) (address_in b) x in
       let y' = same_equal (signature_in a) (signature_in b) y in
       whole a size-a ∙ (λ k. one-slot k ++ (t' k ++ (x' k ++ y' k))) ∙ sym (whole b size-b)
 
-  by_three : rank_order a b ≡ and_then (turned (byte_order (time_in a) (time_in b))) (and_then (byte_order (address_in a) (address_in b)) (byte_order (signature_in a) (signature_in b)))
+  pub by_three : rank_order a b ≡ ordering_then (ordering_reverse (byte_order (time_in a) (time_in b))) (ordering_then (byte_order (address_in a) (address_in b)) (byte_order (signature_in a) (signature_in b)))
   unfolding rank_order
   by_three =
       last_same (byte_order (time_in a) (time_in b)) (byte_order (address_in a) (address_in b)) (byte_order (signature_in a) (signature_in b)) (byte_order a b)
       (λ t x y. rw (equal t x y) (order_self b))
 
-  -- what the time says, and where it says nothing what the rest says
-  pub rank_by_time : {o : Order} → byte_order (time_in a) (time_in b) ≡ o
-      → rank_order a b ≡ and_then (turned o) (and_then (byte_order (address_in a) (address_in b)) (byte_order (signature_in a) (signature_in b)))
-  rank_by_time e = by_three ∙ ap (λ (t : Order). and_then (turned t) (and_then (byte_order (address_in a) (address_in b)) (byte_order (signature_in a) (signature_in b)))) e
-
 -- the choice between two records of 145 bytes
-second_first : (o : Order) → cond (is_less (turned o)) Second First ≡ preferred o
+second_first : (o : Ordering) → cond (is_lt (ordering_reverse o)) Second First ≡ preferred o
 second_first Less = refl
-second_first Same = refl
-second_first More = refl
+second_first Equal = refl
+second_first Greater = refl
 
 -- which verdict it is, as a number
 abbrev which : Choice → ℕ
@@ -101,7 +97,7 @@ module _ (a b : List ℕ) (size-a : length a ≡ 145) (size-b : length b ≡ 145
   unfolding verdict beats
   choice_one_slot e = judged ∙ rw (eq-eqb (slot a) (slot b) (ap big e), rank_turned a b) (second_first (rank_order a b))
 
-  pub choice_two_slots : Bytes a → Bytes b → (byte_order (take 40 a) (take 40 b) ≡ Same → ⊥) → choice a b ≡ Neither
+  pub choice_two_slots : Bytes a → Bytes b → (byte_order (take 40 a) (take 40 b) ≡ Equal → ⊥) → choice a b ≡ Neither
   unfolding verdict
   choice_two_slots p q h =
       let long : length (take 40 a) ≡ length (take 40 b) = length-take-le 40 a (omega (arith, size-a)) ∙ sym (length-take-le 40 b (omega (arith, size-b))) in

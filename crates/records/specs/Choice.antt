@@ -1,7 +1,7 @@
 -- Of two records the one that ranks higher.
 use Rattle.std.specs.Prelude.{cond, ◌&&◌, List, [], ℕ, eqb, length}
-use Rattle.octets.specs.declared.order.Order.{Order}
-use Rattle.octets.specs.declared.order.Order.TheVariants.{Less, Same, More}
+use Rattle.std.specs.declared.cmp.Ordering.{Ordering}
+use Rattle.std.specs.declared.cmp.Ordering.TheVariants.{Less, Equal, Greater}
 use Rattle.records.specs.Record.{slot}
 use Rattle.records.specs.Rank.{beats}
 use Rattle.records.specs.declared.rank.Choice.{Choice}
@@ -16,10 +16,10 @@ choice a b =
     Neither
 
 -- the same, of records of one slot, by how they rank
-abbrev pub preferred : Order → Choice
+abbrev pub preferred : Ordering → Choice
 preferred Less = First
-preferred Same = First
-preferred More = Second
+preferred Equal = First
+preferred Greater = Second
 
 abbrev pub chosen : Choice → List ℕ → List ℕ → List ℕ
 chosen First a b = a

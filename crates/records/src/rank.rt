@@ -1,13 +1,12 @@
 // Rank in one slot: which of two records stays.
-ghost use Rattle.std.specs.Prelude.{◌≡◌, length, take};
-ghost use Rattle.octets.specs.Order.{byte_order, and_then};
-ghost use Rattle.records.specs.Record.{address_in, signature_in};
+ghost use Rattle.std.specs.Prelude.{◌≡◌, take};
 ghost use Rattle.records.specs.Rank.{rank_order};
 ghost use Rattle.records.specs.Choice.{choice, higher_of, place_of, preferred};
 
-use octets::order::{Order, compare};
+use octets::order::compare;
+use std::cmp::Ordering;
 
-// Which of two records ranks higher.
+// Which of two records ranks higher. Neither is an answer as the others are, and `choice` promises the three by name: an Option of two would say no more.
 #[derive(Clone, Copy)]
 pub enum Choice {
     First,
@@ -31,50 +30,33 @@ pub fn higher<'a>(first: &'a [u8], second: &'a [u8]) -> &'a [u8]
 pub fn choose(first: &[u8], second: &[u8]) -> Choice
     ensures { result ≡ choice first.now second.now }
 {
-    if first.len() != 145 {
+    let (Some(first), Some(second)) = (first.as_array(), second.as_array()) else {
+        return Choice::Neither;
+    };
+    if compare(&first[..40], &second[..40]).is_ne() {
         return Choice::Neither;
     }
-    if second.len() != 145 {
-        return Choice::Neither;
-    }
-    match compare(&first[0..40], &second[0..40]) {
-        Order::Same => prefer(rank(first, second)),
-        Order::Less => Choice::Neither,
-        Order::More => Choice::Neither,
-    }
+    prefer(rank(first, second))
 }
 
 // The first unless the second ranks higher.
-fn prefer(order: Order) -> Choice
+fn prefer(order: Ordering) -> Choice
     ensures { result ≡ preferred order }
 {
-    match order {
-        Order::Less => Choice::First,
-        Order::Same => Choice::First,
-        Order::More => Choice::Second,
+    if order.is_gt() {
+        Choice::Second
+    } else {
+        Choice::First
     }
 }
 
-// How two records of one slot rank, Less where the first ranks higher.
-pub(crate) fn rank(first: &[u8], second: &[u8]) -> Order
-    requires { (length first.now ≡ 145) × (length second.now ≡ 145) × (take 40 first.now ≡ take 40 second.now) }
+// How two records of one slot rank, Less where the first ranks higher: the later time, then the smaller address, then the smaller signature bytes.
+fn rank(first: &[u8; 145], second: &[u8; 145]) -> Ordering
+    requires { take 40 first.now ≡ take 40 second.now }
     ensures { result ≡ rank_order first.now second.now }
 {
-    match compare(&first[40..48], &second[40..48]) {
-        Order::Less => Order::More,
-        Order::More => Order::Less,
-        Order::Same => rank_at_one_time(first, second),
-    }
-}
-
-// The smaller address, then the smaller signature bytes.
-fn rank_at_one_time(first: &[u8], second: &[u8]) -> Order
-    requires { (length first.now ≡ 145) × (length second.now ≡ 145) }
-    ensures { result ≡ and_then (byte_order (address_in first.now) (address_in second.now)) (byte_order (signature_in first.now) (signature_in second.now)) }
-{
-    match compare(&first[48..80], &second[48..80]) {
-        Order::Less => Order::Less,
-        Order::More => Order::More,
-        Order::Same => compare(&first[80..145], &second[80..145]),
-    }
+    compare(&first[40..48], &second[40..48])
+        .reverse()
+        .then_with(|| compare(&first[48..80], &second[48..80]))
+        .then_with(|| compare(&first[80..145], &second[80..145]))
 }

@@ -8,6 +8,7 @@ use native.Mathlib.Omega.{arith}
 use lib.ListN.{length, get_or, take, drop, set}
 use native.Mathlib.Nat.{le_refl, eq-or-lt_of_le}
 use borrow.Author.Tests.{eq-eqb}
+use Rattle.octets.specs.Number.{big_at}
 use Rattle.moving.specs.Moving.{placed}
 use Rattle.settling.specs.Book.{good}
 use Rattle.settling.proofs.Cases.{Limit, within, beyond, limit}
@@ -26,8 +27,9 @@ use Rattle.book.specs.Book.{read}
 use Rattle.nearing.specs.Near.{near_in}
 use Rattle.editing.specs.Edit.{added}
 use Rattle.nearing.proofs.Nearing.{near_in_lem}
-use Rattle.reserve.specs.Awaits.{Awaits, AwaitsAt, Free, Ends}
+use Rattle.reserve.specs.Awaits.{Awaits, AwaitsAt, Unbeaten, Free, Ends}
 use Rattle.book.proofs.Cuts.{counted}
+use Rattle.book.proofs.Fields
 use Rattle.book.proofs.Records.{no_record}
 use Rattle.reserve.proofs.Stored.{stands_added, replaced}
 use Rattle.reserve.proofs.Steps.{kept, stands, ends, ends_same}
@@ -107,6 +109,10 @@ module _ (s r : List ℕ) (i : ℕ) (w : AwaitsAt s r i) where
     pub never_neither : choice (record_in s i) r ≡ Neither → ⊥
     never_neither e = neither_says (record_in s i) r (held_fits held_there).size given_size e (sym unbeaten.0)
 
+-- where a record is held, its place is low enough to count its bytes
+pub held_low : (s r : List ℕ) (i : ℕ) → Unbeaten s r i → i < 65536
+held_low s r i u = omega (arith, held_there s r i u.at u.first, u.at.awaits.formed.count, u.at.awaits.formed.most)
+
 -- the slot is empty
 module _ (s r : List ℕ) (i : ℕ) (w : Free s r i) where
   free_awaits : Awaits s r
@@ -117,6 +123,10 @@ module _ (s r : List ℕ) (i : ℕ) (w : Free s r i) where
 
   pub free_place : i ≤ count_in s
   free_place = omega (arith, w.at.place.bounded, counted s)
+
+  -- the header's two numbers, as code reads them
+  pub numbers_there : (big_at 4 s 44 ≡ count_in s) × (big_at 4 s 40 ≡ capacity_in s)
+  numbers_there = (Fields.count_there s (omega (arith, free_awaits.formed.size)), Fields.capacity_there s (omega (arith, free_awaits.formed.size)))
 
   pub adds : (n : ℕ) → n ≡ count_in s → n < capacity_in s → (t : List ℕ) → t ≡ added s n i r → Ends s r 0 t
   unfolding read

@@ -4,9 +4,12 @@ use mathlib.Core.List.{List, [], ◌∷◌, ◌++◌}
 use Prim.Native.Nat.{ℕ, suc, ◌+◌, ◌-◌, ◌≤◌, ◌<◌}
 use native.Mathlib.Omega.{arith}
 use lib.ListN.{length, take, drop, length-take}
+use borrow.Author.Tests.{le-leb, lt-leb}
+use Rattle.std.specs.Prelude.{Option, Some, None}
 use Rattle.octets.specs.Number.{big_at}
 use Rattle.settling.specs.Book.{overfull, good, inside}
 use Rattle.settling.specs.Tally.{least_fit}
+use Rattle.settling.proofs.Cases.{Limit, within, beyond, limit}
 use Rattle.settling.proofs.Inside.{inside_in_lem}
 use Rattle.settling.proofs.Places as places
 use Rattle.settling.proofs.Places.{kept_after}
@@ -19,7 +22,7 @@ use Rattle.book.specs.Layout.{depth_in, overlay_in, capacity_in, count_in, recor
 use Rattle.book.specs.Book.{in_state, read, write}
 use Rattle.book.proofs.Cuts.{counted}
 use Rattle.book.proofs.Fields.{count_there}
-use Rattle.filing.specs.Least.{least_in}
+use Rattle.filing.specs.Least.{least_in, rising}
 use Rattle.filing.specs.Keep.{kept_bytes, staying}
 use Rattle.editing.specs.Edit.{added, burst_bytes}
 use Rattle.filing.proofs.Counting.{least_in_lem}
@@ -31,6 +34,21 @@ use Rattle.reserve.proofs.Bursting.{stands_burst}
 use Rattle.reserve.proofs.Keeping.{there, kept_stands, kept_before}
 use Rattle.reserve.proofs.Steps.{kept, stands, ends}
 use Rattle.reserve.proofs.Enters.{free_there}
+
+-- what is said of the least depth, where there is one to rise to and where there is none
+pub past : (n : ℕ) → rising n ≡ None → 16 < n
+past n e = go (limit n 16)
+  where
+    go : Limit n 16 → 16 < n
+    go (within p) = let q : ◌≡◌ {A = Option ℕ} (Some n) None = rw (le-leb n 16 p) at e in cc
+    go (beyond p) = p
+
+pub reached : (n d : ℕ) → rising n ≡ Some d → (d ≡ n) × (n ≤ 16)
+reached n d e = go (limit n 16)
+  where
+    go : Limit n 16 → (d ≡ n) × (n ≤ 16)
+    go (within p) = let q : ◌≡◌ {A = Option ℕ} (Some n) (Some d) = rw (le-leb n 16 p) at e in (cc, p)
+    go (beyond p) = let q : ◌≡◌ {A = Option ℕ} None (Some d) = rw (lt-leb n 16 p) at e in cc
 
 module _ (s r : List ℕ) (i : ℕ) (w : Free s r i) where
   awaits : Awaits s r

@@ -13,32 +13,51 @@ use Rattle.octets.proofs.Numbers.{big_at_fits}
 use Rattle.moving.specs.Moving.{over, placed}
 use Rattle.octets.proofs.Parts.{part_length, part_of_take}
 use Rattle.moving.proofs.Edits.{placed_fits}
-use Rattle.postage.specs.declared.rules.StampAnswer.{StampAnswer}
-use Rattle.postage.specs.declared.rules.StampAnswer.TheVariants.{Passes, BadList, WrongLength, NoBatch, OtherBucket, IndexPast, NotOwner}
+use Rattle.std.specs.Prelude.{Result, Ok, Err}
+use Rattle.postage.specs.declared.rules.StampError.{StampError}
+use Rattle.postage.specs.declared.rules.StampError.TheVariants.{BadList, WrongLength, NoBatch, OtherBucket, IndexPast, NotOwner}
 use Rattle.postage.specs.Rules.{stamp_number, checked}
 use Rattle.postage.proofs.Theorems.{passing_is_bucketed, passing_index}
 use Rattle.postage.proofs.InOrder.{in_order}
 use Rattle.records.specs.Record.{address_in, record_of, Fitting}
 use Rattle.reserve.specs.Stamps.{stamp_answer}
+use Rattle.reserve.specs.Answer.{error_number, of_stamp}
 use Rattle.book.proofs.Headed.{over_middle}
 
-in_range_lem : (a : StampAnswer) → (stamp_number a ≡ 0) ⊎ ((10 ≤ stamp_number a) × (stamp_number a ≤ 19))
-in_range_lem Passes = inl refl
-in_range_lem BadList = inr (omega arith, omega arith)
-in_range_lem WrongLength = inr (omega arith, omega arith)
-in_range_lem NoBatch = inr (omega arith, omega arith)
-in_range_lem OtherBucket = inr (omega arith, omega arith)
-in_range_lem IndexPast = inr (omega arith, omega arith)
-in_range_lem NotOwner = inr (omega arith, omega arith)
+in_range_lem : (a : Result (Unit {0}) StampError) → (stamp_number a ≡ 0) ⊎ ((10 ≤ stamp_number a) × (stamp_number a ≤ 19))
+in_range_lem (Ok tt) = inl refl
+in_range_lem (Err BadList) = inr (omega arith, omega arith)
+in_range_lem (Err WrongLength) = inr (omega arith, omega arith)
+in_range_lem (Err NoBatch) = inr (omega arith, omega arith)
+in_range_lem (Err OtherBucket) = inr (omega arith, omega arith)
+in_range_lem (Err IndexPast) = inr (omega arith, omega arith)
+in_range_lem (Err NotOwner) = inr (omega arith, omega arith)
 
-passes : (a : StampAnswer) → stamp_number a ≡ 0 → a ≡ Passes
-passes Passes e = refl
-passes BadList e = absurd (omega (arith, e))
-passes WrongLength e = absurd (omega (arith, e))
-passes NoBatch e = absurd (omega (arith, e))
-passes OtherBucket e = absurd (omega (arith, e))
-passes IndexPast e = absurd (omega (arith, e))
-passes NotOwner e = absurd (omega (arith, e))
+passes : (a : Result (Unit {0}) StampError) → stamp_number a ≡ 0 → a ≡ Ok tt
+passes (Ok tt) e = refl
+passes (Err BadList) e = absurd (omega (arith, e))
+passes (Err WrongLength) e = absurd (omega (arith, e))
+passes (Err NoBatch) e = absurd (omega (arith, e))
+passes (Err OtherBucket) e = absurd (omega (arith, e))
+passes (Err IndexPast) e = absurd (omega (arith, e))
+passes (Err NotOwner) e = absurd (omega (arith, e))
+
+-- an offer is refused by the number that its stamp is refused by, and that is not 0
+pub as_stamp : (e : StampError) → error_number (of_stamp e) ≡ stamp_number (Err e)
+as_stamp BadList = refl
+as_stamp WrongLength = refl
+as_stamp NoBatch = refl
+as_stamp OtherBucket = refl
+as_stamp IndexPast = refl
+as_stamp NotOwner = refl
+
+pub not_passing : (e : StampError) → stamp_number (Err e) ≡ 0 → ⊥
+not_passing BadList z = absurd (omega (arith, z))
+not_passing WrongLength z = absurd (omega (arith, z))
+not_passing NoBatch z = absurd (omega (arith, z))
+not_passing OtherBucket z = absurd (omega (arith, z))
+not_passing IndexPast z = absurd (omega (arith, z))
+not_passing NotOwner z = absurd (omega (arith, z))
 
 -- the parts of a record, in its stamp and its address
 module _ (address stamp : List ℕ) (whole : length address ≡ 32) (stamped : length stamp ≡ 113) where
@@ -108,16 +127,16 @@ module _ (batches address stamp account : List ℕ) where
   unfolding stamp_answer
   stamp_range = in_range_lem (checked batches address stamp account)
 
-  pub stamp_answered : (x a : StampAnswer) → x ≡ checked batches address stamp account → x ≡ a → stamp_answer batches address stamp account ≡ stamp_number a
+  pub stamp_answered : (x a : Result (Unit {0}) StampError) → x ≡ checked batches address stamp account → x ≡ a → stamp_answer batches address stamp account ≡ stamp_number a
   unfolding stamp_answer
   stamp_answered x a e f = ap stamp_number (sym e ∙ f)
 
-  stamp_passes : stamp_answer batches address stamp account ≡ 0 → checked batches address stamp account ≡ Passes
+  stamp_passes : stamp_answer batches address stamp account ≡ 0 → checked batches address stamp account ≡ Ok tt
   unfolding stamp_answer
   stamp_passes e = passes (checked batches address stamp account) e
 
   pub stamp_lengths : stamp_answer batches address stamp account ≡ 0 → (length address ≡ 32) × (length stamp ≡ 113)
-  stamp_lengths e = let g = (in_order batches address stamp account Passes).0 (stamp_passes e) in (g.1.of_address, g.1.of_stamp)
+  stamp_lengths e = let g = (in_order batches address stamp account (Ok tt)).0 (stamp_passes e) in (g.1.of_address, g.1.of_stamp)
 
   pub stamp_fits : Bytes address → Bytes stamp → stamp_answer batches address stamp account ≡ 0 → Fitting (record_of address stamp)
   stamp_fits p q e =

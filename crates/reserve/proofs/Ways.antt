@@ -11,11 +11,25 @@ use Rattle.octets.specs.Bytes.{Bytes}
 use Rattle.records.specs.Record.{record_of}
 use Rattle.book.specs.Layout.{state_in, WellFormed}
 use Rattle.book.specs.Book.{read}
+use Rattle.wellformed.specs.declared.check.BookError.{BookError}
+use Rattle.wellformed.specs.declared.check.BookError.TheVariants.{NotWellFormed}
 use Rattle.wellformed.specs.Check.{well_formed}
 use Rattle.reserve.specs.Stamps.{stamp_answer}
-use Rattle.reserve.specs.Offer.{refused, entered, offered}
+use Rattle.reserve.specs.Answer.{error_number, of_book}
+use Rattle.reserve.specs.Offer.{Ended, refused, entered, offered}
 use Rattle.wellformed.proofs.Tested.{said as untested, heard as tested}
 use Rattle.reserve.proofs.Stamped.{stamp_range}
+
+-- an offer to what is no book is refused by the number that the book is
+pub as_book : (e : BookError) → error_number (of_book e) ≡ 13
+as_book NotWellFormed = refl
+
+-- what is handed back, and what is left
+abbrev pub number_after : Ended → ℕ
+number_after e = e.number
+
+abbrev pub bytes_after : Ended → List ℕ
+bytes_after e = e.bytes
 
 -- a good book's state
 pub is_good : (s : List ℕ) → WellFormed s → (state_in s ≡ 1 → ⊥) → state_in s ≡ 0

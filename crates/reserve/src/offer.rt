@@ -1,23 +1,28 @@
 // An offer to a book: address, stamp and the account that signed it.
 ghost use Rattle.std.specs.Prelude.{◌≡◌, length};
 ghost use Rattle.records.specs.Record.{record_of};
-ghost use Rattle.book.specs.Layout.{WellFormed};
-ghost use Rattle.reserve.specs.Answer.{offer_number};
+ghost use Rattle.reserve.specs.Answer.{filed_number, error_number, offer_number, of_stamp, of_book};
 ghost use Rattle.reserve.specs.Offer.{offered};
-ghost use Rattle.reserve.specs.Awaits.{Awaits, Ends};
 
 use crate::enter::enter;
+use answers::Numbered;
 use book::header::overfull;
 use moving::put;
-use postage::{StampAnswer, check_stamp};
-use wellformed::check::{BookAnswer, check_book};
+use postage::{StampError, check_stamp};
+use wellformed::check::{BookError, check_book};
 
-// What an offer answers.
+// Where a record that is heard ends up: in the book, outside the depth that it rose to, or in a book that is overfull by it. Each of
+// the three writes, and none is a lack, so that they are no Option.
 #[derive(Clone, Copy)]
-pub enum OfferAnswer {
+pub enum Filed {
     Kept,
     Dropped,
     Burst,
+}
+
+// Why an offer is refused.
+#[derive(Clone, Copy)]
+pub enum OfferError {
     WrongLength,
     NotWellFormed,
     Overfull,
@@ -31,80 +36,82 @@ pub enum OfferAnswer {
     Outranked,
 }
 
-impl OfferAnswer {
-    // The number handed back for this answer.
-    pub fn number(self) -> u32
-        ensures { result ≡ offer_number self }
-    {
+impl Numbered for Filed {
+    ghost number = { filed_number };
+
+    fn number(&self) -> u32 {
         match self {
-            OfferAnswer::Kept => 0,
-            OfferAnswer::Dropped => 2,
-            OfferAnswer::Burst => 3,
-            OfferAnswer::WrongLength => 10,
-            OfferAnswer::NotWellFormed => 13,
-            OfferAnswer::Overfull => 14,
-            OfferAnswer::BadList => 15,
-            OfferAnswer::NoBatch => 16,
-            OfferAnswer::OtherBucket => 17,
-            OfferAnswer::IndexPast => 18,
-            OfferAnswer::NotOwner => 19,
-            OfferAnswer::Outside => 20,
-            OfferAnswer::Held => 21,
-            OfferAnswer::Outranked => 22,
+            Filed::Kept => 0,
+            Filed::Dropped => 2,
+            Filed::Burst => 3,
         }
     }
 }
 
-// An offer to any bytes; only 0, 2 and 3 write.
+impl Numbered for OfferError {
+    ghost number = { error_number };
+
+    fn number(&self) -> u32 {
+        match self {
+            OfferError::WrongLength => 10,
+            OfferError::NotWellFormed => 13,
+            OfferError::Overfull => 14,
+            OfferError::BadList => 15,
+            OfferError::NoBatch => 16,
+            OfferError::OtherBucket => 17,
+            OfferError::IndexPast => 18,
+            OfferError::NotOwner => 19,
+            OfferError::Outside => 20,
+            OfferError::Held => 21,
+            OfferError::Outranked => 22,
+        }
+    }
+}
+
+// What a stamp is refused for, its offer is refused for.
+impl From<StampError> for OfferError {
+    ghost from_gives = { λ error result. result ≡ of_stamp error };
+
+    fn from(error: StampError) -> OfferError {
+        match error {
+            StampError::BadList => OfferError::BadList,
+            StampError::WrongLength => OfferError::WrongLength,
+            StampError::NoBatch => OfferError::NoBatch,
+            StampError::OtherBucket => OfferError::OtherBucket,
+            StampError::IndexPast => OfferError::IndexPast,
+            StampError::NotOwner => OfferError::NotOwner,
+        }
+    }
+}
+
+// And so is any offer to bytes that are no book.
+impl From<BookError> for OfferError {
+    ghost from_gives = { λ error result. result ≡ of_book error };
+
+    fn from(error: BookError) -> OfferError {
+        match error {
+            BookError::NotWellFormed => OfferError::NotWellFormed,
+        }
+    }
+}
+
+// An offer to any bytes: what is refused writes nothing. The book answers first, by its form and then by its state; then the stamp's checks.
 pub fn offer(
     book: &mut [u8],
     batches: &[u8],
     address: &[u8],
     stamp: &[u8],
     account: &[u8],
-) -> OfferAnswer
+) -> Result<Filed, OfferError>
     ensures number { offer_number result ≡ (offered book.old batches.now address.now stamp.now account.now).number }
     ensures bytes { book.new ≡ (offered book.old batches.now address.now stamp.now account.now).bytes }
 {
-    match check_book(book) {
-        BookAnswer::NotWellFormed => OfferAnswer::NotWellFormed,
-        BookAnswer::WellFormed => hear(book, batches, address, stamp, account),
-    }
-}
-
-// An offer to a well-formed book: an overfull one answers first, then the stamp's checks.
-fn hear(
-    book: &mut [u8],
-    batches: &[u8],
-    address: &[u8],
-    stamp: &[u8],
-    account: &[u8],
-) -> OfferAnswer
-    requires { WellFormed book.old }
-    ensures number { offer_number result ≡ (offered book.old batches.now address.now stamp.now account.now).number }
-    ensures bytes { book.new ≡ (offered book.old batches.now address.now stamp.now account.now).bytes }
-{
+    check_book(book)?;
     if overfull(book) {
-        return OfferAnswer::Overfull;
+        return Err(OfferError::Overfull);
     }
-    match check_stamp(batches, address, stamp, account) {
-        StampAnswer::Passes => take(book, address, stamp),
-        StampAnswer::BadList => OfferAnswer::BadList,
-        StampAnswer::WrongLength => OfferAnswer::WrongLength,
-        StampAnswer::NoBatch => OfferAnswer::NoBatch,
-        StampAnswer::OtherBucket => OfferAnswer::OtherBucket,
-        StampAnswer::IndexPast => OfferAnswer::IndexPast,
-        StampAnswer::NotOwner => OfferAnswer::NotOwner,
-    }
-}
-
-// A valid offer: its record is put together and entered.
-fn take(book: &mut [u8], address: &[u8], stamp: &[u8]) -> OfferAnswer
-    requires { Awaits book.old (record_of address.now stamp.now) × (length address.now ≡ 32) × (length stamp.now ≡ 113) }
-    ensures { Ends book.old (record_of address.now stamp.now) (offer_number result) book.new }
-{
-    let given = record_of(address, stamp);
-    enter(book, &given)
+    check_stamp(batches, address, stamp, account)?;
+    enter(book, record_of(address, stamp))
 }
 
 // The record of a chunk's address and its stamp.

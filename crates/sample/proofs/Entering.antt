@@ -7,16 +7,17 @@ use Prim.Native.Nat.{ℕ, zero, suc}
 use native.Mathlib.Omega.{arith}
 use lib.ListN.{take}
 use lib.Seq.{take-take}
-use Rattle.octets.specs.Order.{byte_order, turned}
-use Rattle.octets.specs.declared.order.Order.{Order}
-use Rattle.octets.specs.declared.order.Order.TheVariants.{Less, Same, More}
+use Rattle.std.specs.declared.cmp.Ordering.{Ordering}
+use Rattle.std.specs.declared.cmp.Ordering.TheVariants.{Less, Equal, Greater}
+use Rattle.std.specs.Ordering.{ordering_reverse}
+use Rattle.octets.specs.Order.{byte_order}
 use Rattle.octets.proofs.Ordered.{order_self, same_equal, order_turned, less_trans, less_not_same}
 use Rattle.sample.specs.Sample.{standing, entered, Ascending}
 
 -- ---- the order of pairs
 
-pub more_less : (p q : List ℕ) → byte_order p q ≡ More → byte_order q p ≡ Less
-more_less p q e = order_turned p q ∙ ap turned e
+pub more_less : (p q : List ℕ) → byte_order p q ≡ Greater → byte_order q p ≡ Less
+more_less p q e = order_turned p q ∙ ap ordering_reverse e
 
 pub less_not_self : (p : List ℕ) → byte_order p p ≡ Less → ⊥
 less_not_self p e = less_not_same (sym e ∙ order_self p)
@@ -31,21 +32,21 @@ unfolding entered
 entered_has p [] = Memᴰ.head refl
 entered_has p (q ∷ l) = go (byte_order p q) refl (entered_has p l)
   where
-    go : (o : Order) → byte_order p q ≡ o → Memᴰ p (entered p l) → Memᴰ p (standing o p q l (entered p l))
+    go : (o : Ordering) → byte_order p q ≡ o → Memᴰ p (entered p l) → Memᴰ p (standing o p q l (entered p l))
     go Less e further = Memᴰ.head refl
-    go Same e further = Memᴰ.head (same_equal p q e)
-    go More e further = Memᴰ.tail further
+    go Equal e further = Memᴰ.head (same_equal p q e)
+    go Greater e further = Memᴰ.tail further
 
 pub entered_keeps : (p : List ℕ) (l : List (List ℕ)) (r : List ℕ) → Memᴰ r l → Memᴰ r (entered p l)
 unfolding entered
 entered_keeps p [] r m = absurd (Memᴰ.not-nil m)
 entered_keeps p (q ∷ l) r m = go (byte_order p q) (Memᴰ.cases_cons m) (λ k. entered_keeps p l r k)
   where
-    go : (o : Order) → (r ≡ q) ⊎ Memᴰ r l → (Memᴰ r l → Memᴰ r (entered p l)) → Memᴰ r (standing o p q l (entered p l))
+    go : (o : Ordering) → (r ≡ q) ⊎ Memᴰ r l → (Memᴰ r l → Memᴰ r (entered p l)) → Memᴰ r (standing o p q l (entered p l))
     go Less k further = Memᴰ.tail m
-    go Same k further = m
-    go More (inl e) further = Memᴰ.head e
-    go More (inr k) further = Memᴰ.tail (further k)
+    go Equal k further = m
+    go Greater (inl e) further = Memᴰ.head e
+    go Greater (inr k) further = Memᴰ.tail (further k)
 
 pub entered_from : (p : List ℕ) (l : List (List ℕ)) (r : List ℕ) → Memᴰ r (entered p l) → (r ≡ p) ⊎ Memᴰ r l
 unfolding entered
@@ -60,10 +61,10 @@ entered_from p (q ∷ l) r m = go (byte_order p q) m (λ k. entered_from p l r k
     later further (inl e) = inr (Memᴰ.head e)
     later further (inr k) = up (further k)
 
-    go : (o : Order) → Memᴰ r (standing o p q l (entered p l)) → (Memᴰ r (entered p l) → (r ≡ p) ⊎ Memᴰ r l) → (r ≡ p) ⊎ Memᴰ r (q ∷ l)
+    go : (o : Ordering) → Memᴰ r (standing o p q l (entered p l)) → (Memᴰ r (entered p l) → (r ≡ p) ⊎ Memᴰ r l) → (r ≡ p) ⊎ Memᴰ r (q ∷ l)
     go Less k further = Memᴰ.cases_cons k
-    go Same k further = inr k
-    go More k further = later further (Memᴰ.cases_cons k)
+    go Equal k further = inr k
+    go Greater k further = later further (Memᴰ.cases_cons k)
 
 -- ---- order
 
@@ -103,10 +104,10 @@ entered_ascending p (q ∷ l) a = go (byte_order p q) refl (entered_ascending p 
     later e r (inl f) = ap (byte_order q) f ∙ e
     later e r (inr k) = ascending_head q l a r k
 
-    go : (o : Order) → byte_order p q ≡ o → Ascending (entered p l) → Ascending (standing o p q l (entered p l))
+    go : (o : Ordering) → byte_order p q ≡ o → Ascending (entered p l) → Ascending (standing o p q l (entered p l))
     go Less e further = ascending_cons p (q ∷ l) (below_all p q l e a) a
-    go Same e further = a
-    go More e further = ascending_cons q (entered p l) (λ r m. later (more_less p q e) r (entered_from p l r m)) further
+    go Equal e further = a
+    go Greater e further = ascending_cons q (entered p l) (λ r m. later (more_less p q e) r (entered_from p l r m)) further
 
 -- ---- the first n
 
@@ -121,8 +122,8 @@ take_entered zero p l = refl
 take_entered (suc n) p [] = refl
 take_entered (suc n) p (q ∷ l) = go (byte_order p q) (take_entered n p l)
   where
-    go : (o : Order) → take n (entered p (take n l)) ≡ take n (entered p l)
+    go : (o : Ordering) → take n (entered p (take n l)) ≡ take n (entered p l)
         → take (suc n) (standing o p q (take n l) (entered p (take n l))) ≡ take (suc n) (standing o p q l (entered p l))
     go Less further = ap (λ (t : List (List ℕ)). p ∷ t) (take_again n q l)
-    go Same further = ap (λ (t : List (List ℕ)). q ∷ t) (take-take n n l (omega arith))
-    go More further = ap (λ (t : List (List ℕ)). q ∷ t) further
+    go Equal further = ap (λ (t : List (List ℕ)). q ∷ t) (take-take n n l (omega arith))
+    go Greater further = ap (λ (t : List (List ℕ)). q ∷ t) further

@@ -8,7 +8,7 @@ use native.Mathlib.Omega.{arith}
 use lib.ListN.{length, take}
 use lib.Seq.{take-take}
 use Rattle.octets.specs.Order.{byte_order}
-use Rattle.octets.specs.declared.order.Order.TheVariants.{Less}
+use Rattle.std.specs.declared.cmp.Ordering.TheVariants.{Less}
 use Rattle.sample.specs.Sample.{entered, gathered, sixteen, Ascending, SixteenSmallest}
 use Rattle.sample.proofs.Entering.{entered_has, entered_keeps, entered_from, entered_ascending, ascending_nil, ascending_cons, ascending_head, ascending_tail, take_entered, less_not_self, less_not_less}
 

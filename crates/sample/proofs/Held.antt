@@ -10,13 +10,13 @@ use lib.ListN.{length, take, drop, replicate, take-append-drop, length-append, l
 use lib.Seq.{take_at, drop_at, drop-drop, length-take-le}
 use borrow.Author.Tests.{le-leb, lt-leb, eq-eqb, ne_eqb}
 use Rattle.moving.specs.Moving.{inserted}
+use Rattle.std.specs.Prelude.{Ok}
 use Rattle.octets.specs.Pieces.{pieces}
 use Rattle.moving.proofs.Edits.{inserted_fits}
 use Rattle.octets.proofs.Pieces.{length_pieces, pieces_more, pieces_none}
 use Rattle.keccak.specs.Sponge.{joined_parts}
 use Rattle.merkle.specs.Tree.{address_of}
 use Rattle.chunk.specs.Answer.{addressed}
-use Rattle.chunk.specs.declared.addresses.Addressed.{Addressed}
 use Rattle.chunk.proofs.Answers.{addressed_done}
 use Rattle.sample.specs.Sample.{entered, written, sample_span, commitment_of}
 use Rattle.sample.specs.Kept.{kept, held_after, best_after, committed, written_over}
@@ -134,6 +134,9 @@ module _ (pair : List ℕ) (held : ℕ) (best : List ℕ) where
 
 -- ---- what is handed out
 
+pub hashed : (after : List ℕ) → length after ≡ 1024 → addressed [] sample_span after ≡ Ok (address_of [] sample_span after)
+hashed after long = addressed_done [] sample_span after refl (omega arith)
+
 module _ (best : List ℕ) (held : ℕ) (sample : List ℕ) where
   abbrev Nothing : Type 0
   Nothing = (replicate 32 0 ≡ committed best held sample) × (sample ≡ written_over best held sample)
@@ -157,10 +160,9 @@ module _ (best : List ℕ) (held : ℕ) (sample : List ℕ) where
         unfolding committed written_over
         sixteen_out = rw (eq-eqb _ _ all, eq-eqb _ _ room, eq-eqb _ _ lent) (refl, refl)
 
-        pub handed_out : (after : List ℕ) (r : Addressed) → length after ≡ 1024 → after ≡ written (pieces 64 16 best) → r ≡ addressed [] sample_span after
-            → (r.digest ≡ committed best held sample) × (after ≡ written_over best held sample)
+        pub handed_out : (after digest : List ℕ) → length after ≡ 1024 → after ≡ written (pieces 64 16 best) → addressed [] sample_span after ≡ Ok digest
+            → (digest ≡ committed best held sample) × (after ≡ written_over best held sample)
         unfolding commitment_of
-        handed_out after r long out hashed = (
-          ap (λ (a : Addressed). a.digest) (hashed ∙ addressed_done [] sample_span after refl (omega arith)) ∙ ap (address_of [] sample_span) out ∙ sym sixteen_out.0,
-          out ∙ sym sixteen_out.1,
-        )
+        handed_out after digest long out given =
+            let same : digest ≡ address_of [] sample_span after = cc (hashed after long) in
+            (same ∙ ap (address_of [] sample_span) out ∙ sym sixteen_out.0, out ∙ sym sixteen_out.1)

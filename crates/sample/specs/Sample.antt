@@ -2,17 +2,17 @@
 use mathlib.Core.List.{List, [], ◌∷◌, ◌++◌, Memᴰ}
 use Rattle.std.specs.Prelude.{◌≡◌, ℕ, length, take, drop}
 use Rattle.octets.specs.Order.{byte_order}
-use Rattle.octets.specs.declared.order.Order.{Order}
-use Rattle.octets.specs.declared.order.Order.TheVariants.{Less, Same, More}
+use Rattle.std.specs.declared.cmp.Ordering.{Ordering}
+use Rattle.std.specs.declared.cmp.Ordering.TheVariants.{Less, Equal, Greater}
 use Rattle.merkle.specs.Tree.{address_of, address_hashed}
 
 -- ---- the sixteen
 
 -- a pair that stands so to the first of an ascending list: before it, not a second time, or further on
-abbrev pub standing : Order → List ℕ → List ℕ → List (List ℕ) → List (List ℕ) → List (List ℕ)
+abbrev pub standing : Ordering → List ℕ → List ℕ → List (List ℕ) → List (List ℕ) → List (List ℕ)
 standing Less pair first rest further = pair ∷ first ∷ rest
-standing Same pair first rest further = first ∷ rest
-standing More pair first rest further = first ∷ further
+standing Equal pair first rest further = first ∷ rest
+standing Greater pair first rest further = first ∷ further
 
 -- a pair put in its place, once
 unfoldable pub entered : List ℕ → List (List ℕ) → List (List ℕ)

@@ -7,7 +7,8 @@ ghost use Rattle.sample.specs.Kept.{committed, written_over};
 use moving::put;
 
 // The sixteen pairs of `best`, written over `sample`, and their commitment. Nothing is written, and zeros are handed back, where not sixteen
-// are held or a length is another.
+// are held or a length is another: so `committed` promises, and with an Option a draw, which asks with sixteen alone, would have an arm that never runs.
+#[tactic(auto, unfolding(crate::specs::Kept::committed, crate::specs::Kept::written_over))]
 pub fn commit(sample: &mut [u8], best: &[u8], held: usize) -> [u8; 32]
     ensures result { result ≡ committed best.now held sample.old }
     ensures bytes { sample.new ≡ written_over best.now held sample.old }
@@ -22,8 +23,7 @@ pub fn commit(sample: &mut [u8], best: &[u8], held: usize) -> [u8; 32]
         return [0u8; 32];
     }
     write_out(sample, best);
-    let committed = chunk::address(b"\x00\x04\x00\x00\x00\x00\x00\x00", sample);
-    committed.digest
+    chunk::address(b"\x00\x04\x00\x00\x00\x00\x00\x00", sample).unwrap()
 }
 
 // The sixteen pairs of `best`, over `sample`, each as address, anchored address.
@@ -31,13 +31,10 @@ fn write_out(sample: &mut [u8], best: &[u8])
     requires { (length sample.old ≡ 1024) × (length best.now ≡ 1024) }
     ensures { sample.new ≡ written (pieces 64 16 best.now) }
 {
-    let mut i = 0;
-    while i < 16 {
-        let at = 64 * i;
-        let middle = at + 32;
-        let end = at + 64;
-        put(sample, at, &best[middle..end]);
-        put(sample, middle, &best[at..middle]);
-        i += 1;
+    // By place in the sample: what a loop over `chunks_exact_mut` leaves there is out of a proof's sight.
+    for (place, pair) in best.chunks_exact(64).enumerate() {
+        let at = 64 * place;
+        put(sample, at, &pair[32..]);
+        put(sample, at + 32, &pair[..32]);
     }
 }

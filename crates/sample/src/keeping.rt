@@ -5,17 +5,12 @@ ghost use Rattle.sample.specs.Kept.{held_after, best_after};
 ghost use Rattle.sample.specs.Inside.{Belongs};
 
 use moving::insert;
-use octets::order::{Order, compare, lesser};
-
-// Where a pair belongs among those that are held.
-#[derive(Clone, Copy)]
-pub(crate) enum Found {
-    Held,
-    At(usize),
-}
+use octets::order::compare;
+use std::cmp::Ordering;
 
 // `pair` among the `held` pairs of `best`, once and in its place; the last of sixteen gives way. It hands back how many are held then.
-// Nothing changes where a length is another, or more than sixteen are said to be held.
+// Nothing changes where a length is another, or more than sixteen are said to be held. `held_after` and `best_after` promise so of each buffer and
+// each count, so that these stay two parameters, and the answer a count.
 pub fn enter(best: &mut [u8], held: usize, pair: &[u8]) -> usize
     ensures result { result ≡ held_after pair.now held best.old }
     ensures bytes { best.new ≡ best_after pair.now held best.old }
@@ -29,31 +24,30 @@ pub fn enter(best: &mut [u8], held: usize, pair: &[u8]) -> usize
     if 16 < held {
         return held;
     }
-    let Found::At(place) = place_of(best, held, pair) else {
+    let Some(place) = place_of(best, held, pair) else {
         return held;
     };
     if 15 < place {
         return held;
     }
-    let last = lesser(held, 15);
+    let last = held.min(15);
     insert(best, 64 * place, 64 * last, pair);
     last + 1
 }
 
-// Where `pair` belongs among the `held` pairs of `best`.
-fn place_of(best: &[u8], held: usize, pair: &[u8]) -> Found
+// Where `pair` belongs among the `held` pairs of `best`; nowhere where it is one of them.
+fn place_of(best: &[u8], held: usize, pair: &[u8]) -> Option<usize>
     requires { 64 * held ≤ length best.now }
     ensures { Belongs result pair.now (pieces 64 held best.now) }
 {
-    let mut i = 0;
-    while i < held {
-        let at = 64 * i;
-        let end = at + 64;
-        match compare(pair, &best[at..end]) {
-            Order::Less => return Found::At(i),
-            Order::Same => return Found::Held,
-            Order::More => i += 1,
+    let end = 64 * held;
+    // Each arm does another thing, which no test of an Ordering says more plainly.
+    for (place, other) in best[..end].chunks_exact(64).enumerate() {
+        match compare(pair, other) {
+            Ordering::Less => return Some(place),
+            Ordering::Equal => return None,
+            Ordering::Greater => {}
         }
     }
-    Found::At(held)
+    Some(held)
 }

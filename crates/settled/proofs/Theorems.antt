@@ -9,19 +9,19 @@ use Rattle.octets.specs.Order.{byte_order}
 use Rattle.octets.specs.Number.{big, big_at, bytes_of}
 use Rattle.octets.specs.Pieces.{pieces}
 use Rattle.keccak.proofs.Theorems.{padding_sheet}
-use Rattle.nearness.specs.declared.near.Near.TheVariants.{Bits}
+use Rattle.std.specs.Prelude.{Ok}
 use Rattle.nearness.specs.Bits.{bits, bits_of, leading_equal, shared_bits}
 use Rattle.nearness.specs.Near.{nearness_of}
 use Rattle.nearness.proofs.Shared.{length_bits_of}
 use Rattle.batches.specs.Batch.{records, fit, below, ordered, well_listed, find}
 use Rattle.postage.specs.Stamp.{bucket_of, slots_of}
-use Rattle.postage.specs.Rules.{stamp_number, in_bucket, in_slots, is_owner, rules, checked}
+use Rattle.postage.specs.Rules.{stamp_number, in_bucket, in_slots, is_owner, judged, rules, checked}
 use Rattle.merkle.specs.Segment.{segment_of}
 use Rattle.settled.specs.Settled.{from, address, owner, batches, stamp, Settled}
 
 -- ---- shared bits
 
-first_bytes : (nearness_of (from 0x80) (from 0x00) ≡ Bits 0) × (nearness_of (from 0x12) (from 0x00) ≡ Bits 3)
+first_bytes : (nearness_of (from 0x80) (from 0x00) ≡ Ok 0) × (nearness_of (from 0x12) (from 0x00) ≡ Ok 3)
 unfolding nearness_of shared_bits bits_of bits leading_equal
 first_bytes = (refl, refl)
 
@@ -36,7 +36,7 @@ shared_self : (x : List ℕ) → length x ≡ 32 → shared_bits x x ≡ 256
 unfolding shared_bits
 shared_self x e = omega (arith, leading_self (bits_of x), length_bits_of x, e)
 
-near_self : (x : List ℕ) → length x ≡ 32 → nearness_of x x ≡ Bits 256
+near_self : (x : List ℕ) → length x ≡ 32 → nearness_of x x ≡ Ok 256
 unfolding nearness_of
 near_self x e = rw (e, shared_self x e) refl
 
@@ -51,7 +51,7 @@ stamps :
     (bucket_of address ≡ 4660)
     × (stamp_number (checked batches address (stamp 1) owner) ≡ 0)
     × (stamp_number (checked batches address (stamp 2) owner) ≡ 18)
-unfolding big_at big bytes_of byte_order pieces records fit below ordered well_listed find slots_of in_bucket in_slots is_owner rules checked
+unfolding big_at big bytes_of byte_order pieces records fit below ordered well_listed find slots_of in_bucket in_slots is_owner judged rules checked
 stamps = (refl, refl, refl)
 
 pub settled_examples : Settled

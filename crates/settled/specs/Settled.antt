@@ -1,9 +1,8 @@
 -- The settled examples of document 01 that are proved from the definitions: a field an example, in its words and order.
-use Rattle.std.specs.Prelude.{◌≡◌, List, [], ◌∷◌, ◌++◌, ℕ, length, replicate}
+use Rattle.std.specs.Prelude.{◌≡◌, List, [], ◌∷◌, ◌++◌, ℕ, length, replicate, Ok}
 use Rattle.octets.specs.Number.{bytes_of}
 use Rattle.keccak.specs.Hash.{block_count}
 use Rattle.merkle.specs.Segment.{segment_count, segment_of}
-use Rattle.nearness.specs.declared.near.Near.TheVariants.{Bits}
 use Rattle.nearness.specs.Near.{nearness_of}
 use Rattle.postage.specs.Stamp.{bucket_of}
 use Rattle.postage.specs.Rules.{stamp_number, checked}
@@ -40,9 +39,9 @@ pub record Settled : Type 0 where
   pub segments_of_1337 : segment_count 1337 ≡ 42
   pub last_of_1337 : (bytes : List ℕ) → length bytes ≡ 1337 → length (segment_of bytes 41) ≡ 25
   -- Shared bits of first bytes 0x80 and 0x00: 0; 0x12 and 0x00: 3; equal numbers: 256.
-  pub shared_80_00 : nearness_of (from 0x80) (from 0x00) ≡ Bits 0
-  pub shared_12_00 : nearness_of (from 0x12) (from 0x00) ≡ Bits 3
-  pub shared_equal : (x : List ℕ) → length x ≡ 32 → nearness_of x x ≡ Bits 256
+  pub shared_80_00 : nearness_of (from 0x80) (from 0x00) ≡ Ok 0
+  pub shared_12_00 : nearness_of (from 0x12) (from 0x00) ≡ Ok 3
+  pub shared_equal : (x : List ℕ) → length x ≡ 32 → nearness_of x x ≡ Ok 256
   -- Address bytes 12 34: bucket 4660. Batch depth 17: index 1 allowed, 2 gives 18.
   pub bucket_12_34 : bucket_of address ≡ 4660
   pub index_1_allowed : stamp_number (checked batches address (stamp 1) owner) ≡ 0

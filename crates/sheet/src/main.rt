@@ -14,10 +14,11 @@ use tally::Tally;
 
 // In document 01's order: the prose on hashing, the sheet, the book of the listing.
 fn main(rt: HostRuntime) -> io::Result<()> {
-    let tally = hashing::run(&rt, Tally::new())?;
-    let tally = rises::run(&rt, tally)?;
-    let tally = draws::run(&rt, tally)?;
-    let tally = proofs::run(&rt, tally)?;
-    let tally = listed::run(&rt, tally)?;
+    let mut tally = Tally::new();
+    hashing::run(&rt, &mut tally)?;
+    rises::run(&rt, &mut tally)?;
+    draws::run(&rt, &mut tally)?;
+    proofs::run(&rt, &mut tally)?;
+    listed::run(&rt, &mut tally)?;
     tally.report(&rt)
 }

@@ -1,107 +1,76 @@
 // Capacity 16, starting depth 0, overlay zero, sixteen slots, and a seventeenth.
-use crate::stamped::{BOOK, ROOMY, offered, opened};
-use crate::tally::{Tally, heading};
+use crate::stamped::{BOOK, ROOMY, begun, offered, opened};
+use crate::tally::Tally;
 use book::header::{count, depth};
 use std::io;
 
 // The three examples of a seventeenth slot.
-pub(crate) fn run(rt: &impl Print, tally: Tally) -> io::Result<Tally> {
-    heading(rt, b"Capacity 16, starting depth 0, overlay zero:\n")?;
-    let tally = nine_and_seven(rt, tally)?;
-    let tally = eight_of_each(rt, tally)?;
+pub(crate) fn run(rt: &impl Print, tally: &mut Tally) -> io::Result<()> {
+    println!(rt; "Capacity 16, starting depth 0, overlay zero:")?;
+    nine_and_seven(rt, tally)?;
+    eight_of_each(rt, tally)?;
     one_bucket(rt, tally)
 }
 
-fn nine_and_seven(rt: &impl Print, tally: Tally) -> io::Result<Tally> {
-    let mut book = [0u8; BOOK];
-    two_sides(&mut book, 9, 7);
-    let tally = tally.number(
+fn nine_and_seven(rt: &impl Print, tally: &mut Tally) -> io::Result<()> {
+    let mut book = two_sides(9, 7);
+    tally.add(
         rt,
-        b"Sixteen slots with first byte 0x80 (nine) and 0x40 (seven), count",
+        "Sixteen slots with first byte 0x80 (nine) and 0x40 (seven), count",
         16,
-        count(&book) as u64,
+        count(&book),
     )?;
-    let answer = offered(&mut book, ROOMY, address(0x40, true, 16), 16, 1);
-    let tally = tally.number(rt, b"A seventeenth at 0x40 gives", 0, answer)?;
-    risen(
-        rt,
-        tally,
-        b"A seventeenth at 0x40, depth",
-        b"A seventeenth at 0x40, count",
-        &book,
-    )
+    let answer = offered(&mut book, ROOMY, begun([0x40, 16, 16]), 16, 1);
+    tally.add(rt, "A seventeenth at 0x40 gives", 0, answer)?;
+    tally.add(rt, "A seventeenth at 0x40, depth", 1, depth(&book))?;
+    tally.add(rt, "A seventeenth at 0x40, count", 8, count(&book))
 }
 
-fn eight_of_each(rt: &impl Print, tally: Tally) -> io::Result<Tally> {
-    let mut book = [0u8; BOOK];
-    two_sides(&mut book, 8, 8);
-    let tally = tally.number(rt, b"With eight of each, count", 16, count(&book) as u64)?;
-    let answer = offered(&mut book, ROOMY, address(0x80, true, 16), 16, 1);
-    let tally = tally.number(
+fn eight_of_each(rt: &impl Print, tally: &mut Tally) -> io::Result<()> {
+    let mut book = two_sides(8, 8);
+    tally.add(rt, "With eight of each, count", 16, count(&book))?;
+    let answer = offered(&mut book, ROOMY, begun([0x80, 16, 16]), 16, 1);
+    tally.add(
         rt,
-        b"With eight of each and a seventeenth at 0x80",
+        "With eight of each and a seventeenth at 0x80",
         2,
         answer,
     )?;
-    risen(
+    tally.add(
         rt,
-        tally,
-        b"With eight of each and a seventeenth at 0x80, depth",
-        b"With eight of each and a seventeenth at 0x80, count",
-        &book,
-    )
-}
-
-// Opens a book, and offers it so many slots with first byte 0x80, and so many with 0x40.
-fn two_sides(book: &mut [u8], first: u8, second: u8) {
-    opened(book);
-    fill(book, 0x80, true, first);
-    fill(book, 0x40, true, second);
-}
-
-// Depth 1 and count 8.
-fn risen(
-    rt: &impl Print,
-    tally: Tally,
-    on_depth: &[u8],
-    on_count: &[u8],
-    book: &[u8],
-) -> io::Result<Tally> {
-    let tally = tally.number(rt, on_depth, 1, depth(book) as u64)?;
-    tally.number(rt, on_count, 8, count(book) as u64)
-}
-
-fn one_bucket(rt: &impl Print, tally: Tally) -> io::Result<Tally> {
-    let mut book = [0u8; BOOK];
-    opened(&mut book);
-    fill(&mut book, 0x00, false, 16);
-    let tally = tally.number(
-        rt,
-        b"Sixteen slots in bucket 0, count",
-        16,
-        count(&book) as u64,
+        "With eight of each and a seventeenth at 0x80, depth",
+        1,
+        depth(&book),
     )?;
-    let answer = offered(&mut book, ROOMY, address(0x00, false, 16), 16, 1);
-    tally.number(
+    tally.add(
         rt,
-        b"Seventeen slots in bucket 0: the last gives",
-        3,
-        answer,
+        "With eight of each and a seventeenth at 0x80, count",
+        8,
+        count(&book),
     )
 }
 
-// Offers so many slots, from place 0 on.
-fn fill(book: &mut [u8], first: u8, apart: bool, slots: u8) {
-    for place in 0..slots {
-        offered(book, ROOMY, address(first, apart, place), place as u32, 1);
-    }
+// A book that was offered so many slots with first byte 0x80, and so many with 0x40, each in a bucket of its own.
+fn two_sides(first: u8, second: u8) -> [u8; BOOK] {
+    let mut book = opened();
+    fill(&mut book, first, |place| begun([0x80, place, place]));
+    fill(&mut book, second, |place| begun([0x40, place, place]));
+    book
 }
 
-// An address with this first byte. Where they are to stand apart, the place says the bucket too.
-fn address(first: u8, apart: bool, place: u8) -> [u8; 32] {
-    let mut address = [0u8; 32];
-    address[0] = first;
-    address[1] = if apart { place } else { 0 };
-    address[2] = place;
-    address
+fn one_bucket(rt: &impl Print, tally: &mut Tally) -> io::Result<()> {
+    let mut book = opened();
+    fill(&mut book, 16, |place| begun([0, 0, place]));
+    tally.add(rt, "Sixteen slots in bucket 0, count", 16, count(&book))?;
+    let answer = offered(&mut book, ROOMY, begun([0, 0, 16]), 16, 1);
+    tally.add(rt, "Seventeen slots in bucket 0: the last gives", 3, answer)
+}
+
+// Offers so many slots, each the address of its place, from 0 on.
+fn fill<F: Fn(u8) -> [u8; 32]>(book: &mut [u8], slots: u8, address: F)
+    requires { F.IsAlwaysCallable address }
+{
+    for place in 0..slots {
+        offered(book, ROOMY, address(place), u32::from(place), 1);
+    }
 }

@@ -1,7 +1,8 @@
 // What the examples came to. A line is an example in document 01's words, what was expected, what came, and the verdict.
-use std::io;
+use std::fmt::Display;
+use std::{fmt, io};
 use verdict::count::one_more;
-use verdict::equal::{Verdict, judged, judged_digest};
+use verdict::equal::{Verdict, judged};
 
 #[derive(Drop)]
 pub(crate) struct Tally {
@@ -18,93 +19,45 @@ impl Tally {
         }
     }
 
-    // One number more.
-    pub(crate) fn number(
-        self,
+    // One example more, of two numbers, or of bytes in hexadecimal: its line, which ends with the verdict.
+    pub(crate) fn add<T: PartialEq + Display + Drop>(
+        &mut self,
         rt: &impl Print,
-        example: &[u8],
-        expected: u64,
-        came: u64,
-    ) -> io::Result<Tally> {
-        write(rt, example)?;
-        write(rt, b": expected ")?;
-        print!(rt; "{expected}")?;
-        write(rt, b", came ")?;
-        print!(rt; "{came}")?;
-        self.with(rt, judged(expected, came))
-    }
-
-    // Four bytes more, each number the big-endian one of the bytes.
-    pub(crate) fn bytes(
-        self,
-        rt: &impl Print,
-        example: &[u8],
-        expected: u32,
-        came: u32,
-    ) -> io::Result<Tally> {
-        write(rt, example)?;
-        write(rt, b": expected ")?;
-        print!(rt; "{expected:08x}")?;
-        write(rt, b", came ")?;
-        print!(rt; "{came:08x}")?;
-        self.with(rt, judged(expected as u64, came as u64))
-    }
-
-    // One digest more.
-    pub(crate) fn digest(
-        self,
-        rt: &impl Print,
-        example: &[u8],
-        expected: [u8; 32],
-        came: [u8; 32],
-    ) -> io::Result<Tally> {
-        write(rt, example)?;
-        write(rt, b": expected ")?;
-        write_hex(rt, expected)?;
-        write(rt, b", came ")?;
-        write_hex(rt, came)?;
-        self.with(rt, judged_digest(expected, came))
-    }
-
-    // Ends the line with the verdict, and counts it.
-    fn with(mut self, rt: &impl Print, verdict: Verdict) -> io::Result<Tally> {
-        match verdict {
+        example: &str,
+        expected: T,
+        came: T,
+    ) -> io::Result<()> {
+        print!(rt; "{example}: expected {expected}, came {came}")?;
+        match judged(&expected, &came) {
             Verdict::Equal => {
-                write(rt, b", equal\n")?;
                 self.equal = one_more(self.equal);
-                Ok(self)
+                println!(rt; ", equal")
             }
             Verdict::Differs => {
-                write(rt, b", DIFFERS\n")?;
                 self.differ = one_more(self.differ);
-                Ok(self)
+                println!(rt; ", DIFFERS")
             }
         }
     }
 
     // The last line.
-    pub(crate) fn report(self, rt: &impl Print) -> io::Result<()> {
-        write(rt, b"Settled examples: ")?;
-        print!(rt; "{}", self.equal)?;
-        write(rt, b" equal, ")?;
-        print!(rt; "{}", self.differ)?;
-        write(rt, b" differ\n")
+    pub(crate) fn report(&self, rt: &impl Print) -> io::Result<()> {
+        println!(rt;
+            "Settled examples: {} equal, {} differ",
+            self.equal, self.differ
+        )
     }
 }
 
-// What the lines after it are about.
-pub(crate) fn heading(rt: &impl Print, words: &[u8]) -> io::Result<()> {
-    write(rt, words)
-}
+// Bytes in hexadecimal, two digits each.
+#[derive(PartialEq, Drop)]
+pub(crate) struct Hex<const N: usize>(pub(crate) [u8; N]);
 
-fn write(rt: &impl Print, words: &[u8]) -> io::Result<()> {
-    rt.write_all(words)
-}
-
-// Two digits a byte.
-fn write_hex(rt: &impl Print, digest: [u8; 32]) -> io::Result<()> {
-    for byte in digest {
-        print!(rt; "{byte:02x}")?;
+impl<const N: usize> Display for Hex<N> {
+    fn fmt<W: fmt::Write>(&self, f: &mut fmt::Formatter<W>) -> fmt::Result {
+        for byte in &self.0 {
+            write!(f, "{byte:02x}")?;
+        }
+        Ok(())
     }
-    Ok(())
 }

@@ -1,9 +1,6 @@
 // The shelf: one chunk on it, read against its record.
 #![tactic(auto)]
 
-mod answer;
 mod cell;
-mod judging;
 
-pub use answer::CellAnswer;
-pub use cell::{CellRead, read_cell};
+pub use cell::{CellError, CellRead, read_cell};

@@ -4,7 +4,7 @@ use mathlib.Core.Logic.{◌⊎◌, inl, inr}
 use mathlib.Core.List.Memᴰ
 use mathlib.Core.List.{List, ◌++◌, append_cancel_left}
 use Prim.Native.Nat.{ℕ}
-use Rattle.octets.specs.declared.order.Order.TheVariants.{Less}
+use Rattle.std.specs.declared.cmp.Ordering.TheVariants.{Less}
 use Rattle.octets.specs.Order.{byte_order}
 use Rattle.octets.proofs.Ordered.{less_not_same, order_self, order_total}
 use Rattle.keccak.specs.Hash.{keccak256}

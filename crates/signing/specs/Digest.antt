@@ -1,12 +1,12 @@
 -- The digest that a batch's owner signs.
-use Rattle.std.specs.Prelude.{cond, ◌&&◌, List, [], ◌∷◌, ◌++◌, ℕ, eqb, length, take, replicate}
+use Rattle.std.specs.Prelude.{cond, ◌&&◌, List, [], ◌∷◌, ◌++◌, ℕ, eqb, length, take, Result, Ok, Err}
 use Prim.Native.Char.{code}
 use Prim.Native.String.{String, [] as none, ◌∷◌ as ◌then◌}
+use Rattle.answers.specs.Number.{done, answer_number}
 use Rattle.keccak.specs.Hash.{keccak256}
 use Rattle.postage.specs.Stamp.{stamp_length}
-use Rattle.signing.specs.declared.digest.DigestAnswer.{DigestAnswer}
-use Rattle.signing.specs.declared.digest.DigestAnswer.TheVariants.{Done, WrongLength}
-use Rattle.signing.specs.declared.digest.StampDigested.{StampDigested}
+use Rattle.signing.specs.declared.digest.DigestError.{DigestError}
+use Rattle.signing.specs.declared.digest.DigestError.TheVariants.{WrongLength}
 
 -- a text's letters as bytes
 abbrev pub letters : String → List ℕ
@@ -35,16 +35,13 @@ hashed address stamp = covered address stamp ∷ (lead ++ keccak256 (covered add
 
 -- ---- the call
 
-abbrev pub digest_number : DigestAnswer → ℕ
-digest_number Done = 0
-digest_number WrongLength = 10
+abbrev pub error_number : DigestError → ℕ
+error_number WrongLength = 10
 
--- a refusal hands back zeros for a digest
-abbrev pub refused : DigestAnswer → StampDigested
-refused answer = record { answer = answer; digest = replicate 32 0 }
+-- the number handed back; the digest beside it is `digest_or_zeros`
+abbrev pub digest_number : Result (List ℕ) DigestError → ℕ
+digest_number = answer_number done error_number
 
-unfoldable pub stamp_digest : List ℕ → List ℕ → StampDigested
+unfoldable pub stamp_digest : List ℕ → List ℕ → Result (List ℕ) DigestError
 stamp_digest address stamp =
-    cond (eqb (length address) 32 && eqb (length stamp) stamp_length)
-    (record { answer = Done; digest = owner_signs address stamp })
-    (refused WrongLength)
+    cond (eqb (length address) 32 && eqb (length stamp) stamp_length) (Ok (owner_signs address stamp)) (Err WrongLength)

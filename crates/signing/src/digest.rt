@@ -1,63 +1,51 @@
 // The digest that a batch's owner signs.
 ghost use Rattle.std.specs.Prelude.{◌≡◌, ◌++◌};
 ghost use Rattle.keccak.specs.Hash.{keccak256};
-ghost use Rattle.signing.specs.Digest.{signed, digest_number, refused, stamp_digest};
+ghost use Rattle.signing.specs.Digest.{error_number, signed, stamp_digest};
+ghost use Rattle.signing.specs.declared.digest.DigestError.TheVariants.{WrongLength};
 
+use answers::Numbered;
 use keccak::Sponge;
+use std::array::TryFromSliceError;
 
+// Why there is no digest.
 #[derive(Clone, Copy)]
-pub enum DigestAnswer {
-    Done,
+pub enum DigestError {
     WrongLength,
 }
 
-// The digest is zeros where the answer is a refusal.
-#[derive(Drop)]
-pub struct StampDigested {
-    pub answer: DigestAnswer,
-    pub digest: [u8; 32],
-}
+impl Numbered for DigestError {
+    ghost number = { error_number };
 
-impl DigestAnswer {
-    // The number handed back for this answer.
-    pub fn number(self) -> u32
-        ensures { result ≡ digest_number self }
-    {
+    fn number(&self) -> u32 {
         match self {
-            DigestAnswer::Done => 0,
-            DigestAnswer::WrongLength => 10,
+            DigestError::WrongLength => 10,
         }
     }
+}
 
-    fn refused(self) -> StampDigested
-        ensures { result ≡ refused self }
-    {
-        StampDigested {
-            answer: self,
-            digest: [0u8; 32],
-        }
+impl From<TryFromSliceError> for DigestError {
+    ghost from_gives = { λ _ error. error ≡ WrongLength };
+
+    fn from(_error: TryFromSliceError) -> DigestError {
+        DigestError::WrongLength
     }
 }
 
 // The digest over a chunk's address and all of its stamp but the signature.
-pub fn stamp_digest(address: &[u8], stamp: &[u8]) -> StampDigested
+#[tactic(auto, unfolding(crate::specs::Digest::covered, crate::specs::Digest::owner_signs, crate::specs::Digest::stamp_digest))]
+pub fn stamp_digest(address: &[u8], stamp: &[u8]) -> Result<[u8; 32], DigestError>
     ensures { result ≡ stamp_digest address.now stamp.now }
 {
-    if address.len() != 32 {
-        return DigestAnswer::WrongLength.refused();
-    }
-    if stamp.len() != 113 {
-        return DigestAnswer::WrongLength.refused();
-    }
-    let inner = hash(address, &stamp[0..48]);
-    StampDigested {
-        answer: DigestAnswer::Done,
-        digest: signed(&inner),
-    }
+    let address: &[u8; 32] = address.try_into()?;
+    let stamp: &[u8; 113] = stamp.try_into()?;
+    let inner = hash(address, &stamp[..48]);
+    Ok(signed(&inner))
 }
 
 // The hash that is signed for a digest: the 28 bytes that ERC-191 puts before it come first.
-fn signed(digest: &[u8]) -> [u8; 32]
+#[tactic(auto, unfolding(crate::specs::Digest::signed))]
+fn signed(digest: &[u8; 32]) -> [u8; 32]
     ensures { result ≡ signed digest.now }
 {
     hash(b"\x19Ethereum Signed Message:\n32", digest)

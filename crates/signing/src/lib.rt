@@ -3,4 +3,4 @@
 
 mod digest;
 
-pub use digest::{DigestAnswer, StampDigested, stamp_digest};
+pub use digest::{DigestError, stamp_digest};

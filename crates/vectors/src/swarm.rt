@@ -1,6 +1,5 @@
 // The chunk address that the Swarm client bee publishes in its own tests.
 use std::io;
-use verdict::equal::same_digest;
 
 const SPAN: [u8; 8] = [15, 0, 0, 0, 0, 0, 0, 0];
 
@@ -11,19 +10,14 @@ const ADDRESS: [u8; 32] = [
 
 // Whether the 15 bytes under span 15, little-endian, have that address.
 fn agrees() -> bool {
-    let span = SPAN;
-    let expected = ADDRESS;
-    let found = chunk::address(&span, b"greaterthanspan");
-    let digest = found.digest;
-    same_digest(digest, expected)
+    chunk::address(&SPAN, b"greaterthanspan").is_ok_and(|digest| digest == ADDRESS)
 }
 
 // One line, as for the hashes.
 pub(crate) fn report(rt: &impl Print) -> io::Result<()> {
-    rt.write_all(b"Chunk addresses: ")?;
     if agrees() {
-        rt.write_all(b"1 equal, 0 differ\n")
+        println!(rt; "Chunk addresses: 1 equal, 0 differ")
     } else {
-        rt.write_all(b"0 equal, 1 differ\n")
+        println!(rt; "Chunk addresses: 0 equal, 1 differ")
     }
 }

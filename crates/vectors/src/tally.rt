@@ -1,10 +1,10 @@
 // What the lines of a file came to.
-use crate::vector::Verdict;
+use crate::field::Stop;
+use crate::vector::Hashed;
 use std::io;
+use streams::count_named;
 use verdict::count::one_more;
-
-// How many lines of a kind are named before the rest are only counted.
-const FEW: u64 = 10;
+use verdict::equal::Verdict;
 
 #[derive(Drop)]
 pub(crate) struct Tally {
@@ -28,56 +28,39 @@ impl Tally {
     }
 
     // One line more, named where it is not as it should be.
-    pub(crate) fn with(mut self, rt: &impl Print, verdict: Verdict) -> io::Result<Tally> {
+    pub(crate) fn add(&mut self, rt: &impl Print, line: Result<Hashed, Stop>) -> io::Result<()> {
         self.lines = one_more(self.lines);
-        match verdict {
-            Verdict::Comment => Ok(self),
-            Verdict::NotUnderstood => {
-                name(rt, self.not_understood, self.lines, b" is not understood\n")?;
-                self.not_understood = one_more(self.not_understood);
-                Ok(self)
-            }
-            Verdict::Equal(parts) => {
-                self.equal = one_more(self.equal);
-                Ok(self.in_parts(parts))
-            }
-            Verdict::Differs(parts) => {
-                name(rt, self.differ, self.lines, b" differs\n")?;
-                self.differ = one_more(self.differ);
-                Ok(self.in_parts(parts))
-            }
+        match line {
+            Ok(hashed) => self.add_hashed(rt, hashed),
+            Err(Stop::Comment) => Ok(()),
+            Err(Stop::Wrong) => count_named(
+                rt,
+                &mut self.not_understood,
+                "line",
+                self.lines,
+                "is not understood",
+            ),
         }
     }
 
-    // Counts a hashed line whose message came in several parts.
-    fn in_parts(mut self, parts: u64) -> Tally {
-        if parts > 1 {
+    fn add_hashed(&mut self, rt: &impl Print, hashed: Hashed) -> io::Result<()> {
+        match hashed.verdict {
+            Verdict::Equal => self.equal = one_more(self.equal),
+            Verdict::Differs => count_named(rt, &mut self.differ, "line", self.lines, "differs")?,
+        }
+        if hashed.parts > 1 {
             self.several = one_more(self.several);
         }
-        self
+        Ok(())
     }
 
     // Three lines, the last of which should begin with 0.
-    pub(crate) fn report(self, rt: &impl Print) -> io::Result<()> {
-        rt.write_all(b"Keccak-256 vectors: ")?;
-        say(rt, self.equal, b" equal, ")?;
-        say(rt, self.differ, b" differ\n")?;
-        say(rt, self.several, b" lines in several parts\n")?;
-        say(rt, self.not_understood, b" lines not understood\n")
+    pub(crate) fn report(&self, rt: &impl Print) -> io::Result<()> {
+        println!(rt;
+            "Keccak-256 vectors: {} equal, {} differ",
+            self.equal, self.differ
+        )?;
+        println!(rt; "{} lines in several parts", self.several)?;
+        println!(rt; "{} lines not understood", self.not_understood)
     }
-}
-
-// Names a line, where few of its kind came before it.
-fn name(rt: &impl Print, before: u64, line: u64, what: &[u8]) -> io::Result<()> {
-    if before < FEW {
-        rt.write_all(b"line ")?;
-        say(rt, line, what)?;
-    }
-    Ok(())
-}
-
-// Writes a number and what it counts.
-fn say(rt: &impl Print, n: u64, what: &[u8]) -> io::Result<()> {
-    print!(rt; "{n}")?;
-    rt.write_all(what)
 }

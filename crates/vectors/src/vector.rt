@@ -1,106 +1,73 @@
 // A Keccak-256 vector: the digest that a line names first, and the message that the parts after it make.
-ghost use Rattle.std.specs.Prelude.{◌≡◌, ℕ, length};
+ghost use Rattle.std.specs.Prelude.{◌≡◌, IfOk, Some};
 ghost use Rattle.keccak.specs.Sponge.{usable, finished};
 
+use crate::field::Stop;
 use keccak::{Sponge, keccak256};
+use std::mem;
 use verdict::count::one_more;
-use verdict::equal::same_digest;
+use verdict::equal::{Verdict, judged};
 
 #[derive(Drop)]
 pub(crate) struct Vector {
-    // How many fields came: the digest, then the parts.
-    fields: u64,
-    digest: [u8; 32],
+    // The line's first field.
+    digest: Option<[u8; 32]>,
+    // How many fields came behind it, and what absorbed them.
+    parts: u64,
     sponge: Sponge,
-    // Whether the first field was a digest.
-    named: bool,
     // False where the message is in one part and, hashed in one call, has another digest.
     agrees: bool,
 }
 
-// What a line comes to; where it was hashed, with how many parts.
+// What a line that was hashed comes to, and how many parts its message came in.
 #[derive(Clone, Copy)]
-pub(crate) enum Verdict {
-    Comment,
-    NotUnderstood,
-    Equal(u64),
-    Differs(u64),
+pub(crate) struct Hashed {
+    pub(crate) verdict: Verdict,
+    pub(crate) parts: u64,
 }
 
 impl Vector {
     // Before any field: the sponge is fresh.
     pub(crate) fn new() -> Vector {
         Vector {
-            fields: 0,
-            digest: [0u8; 32],
+            digest: None,
+            parts: 0,
             sponge: Sponge::new(),
-            named: false,
             agrees: true,
         }
     }
 
-    // One field more.
-    pub(crate) fn with(self, bytes: &[u8]) -> Vector {
-        if self.fields == 0 {
-            self.with_digest(bytes)
-        } else {
-            self.with_part(bytes)
+    // One field more. A digest has 32 bytes.
+    pub(crate) fn add(&mut self, bytes: &[u8]) -> Result<(), Stop> {
+        match self.digest {
+            Some(digest) => self.add_part(digest, bytes),
+            None => self.digest = Some(*bytes.as_array().ok_or(Stop::Wrong)?),
         }
-    }
-
-    // A digest has 32 bytes; with another length the line will not be understood.
-    fn with_digest(mut self, bytes: &[u8]) -> Vector {
-        self.fields = 1;
-        if bytes.len() == 32 {
-            let digest = array(bytes);
-            self.digest = digest;
-            self.named = true;
-        }
-        self
+        Ok(())
     }
 
     // A second part takes back what the first one said, since one call hashes one part.
-    fn with_part(mut self, part: &[u8]) -> Vector {
-        let digest = self.digest;
-        let sponge = self.sponge;
-        let absorbed = sponge.absorb(part);
-        self.agrees = self.fields > 1 || same_digest(keccak256(part), digest);
-        self.sponge = absorbed;
-        self.fields = one_more(self.fields);
-        self
+    fn add_part(&mut self, digest: [u8; 32], part: &[u8]) {
+        self.agrees = self.parts > 0 || keccak256(part) == digest;
+        self.parts = one_more(self.parts);
+        let sponge = mem::replace(&mut self.sponge, Sponge::new());
+        self.sponge = sponge.absorb(part);
     }
 
     // Equal is said only where the hash is the digest.
-    pub(crate) fn verdict(self) -> Verdict
-        ensures { (parts : ℕ) → result ≡ Verdict.Equal parts → finished (usable self.sponge) ≡ self.digest }
+    pub(crate) fn hashed(self) -> Result<Hashed, Stop>
+        ensures { IfOk result (λ hashed. hashed.verdict ≡ Verdict.Equal → self.digest ≡ Some (finished (usable self.sponge))) }
     {
-        if !self.named {
-            return Verdict::NotUnderstood;
+        let digest = self.digest.ok_or(Stop::Wrong)?;
+        let parts = self.parts;
+        if parts == 0 {
+            return Err(Stop::Wrong);
         }
-        if self.fields < 2 {
-            return Verdict::NotUnderstood;
-        }
-        let parts = self.fields - 1;
-        let digest = self.digest;
-        let sponge = self.sponge;
-        if !self.agrees {
-            return Verdict::Differs(parts);
-        }
-        if same_digest(sponge.finish(), digest) {
-            Verdict::Equal(parts)
+        let verdict = if self.agrees {
+            judged(&digest, &self.sponge.finish())
         } else {
-            Verdict::Differs(parts)
-        }
+            Verdict::Differs
+        };
+        Ok(Hashed { verdict, parts })
     }
-}
-
-// The 32 bytes by value.
-fn array(bytes: &[u8]) -> [u8; 32]
-    requires { length bytes.now ≡ 32 }
-{
-    let mut copy = [0u8; 32];
-    for i in 0..32 {
-        copy[i] = bytes[i];
-    }
-    copy
 }

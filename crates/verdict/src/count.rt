@@ -6,5 +6,5 @@ ghost use Rattle.verdict.specs.Count.{one_more};
 pub fn one_more(n: u64) -> u64
     ensures { result ≡ one_more n }
 {
-    if n < u64::MAX { n + 1 } else { n }
+    n.saturating_add(1)
 }

@@ -1,40 +1,21 @@
-// Whether machines are at one about a draw.
+// Whether machines are at one about a draw. A draw is the hash that was drawn, or why none was.
 ghost use Rattle.std.specs.Prelude.{◌≡◌};
-ghost use Rattle.verdict.specs.Agree.{one_hash, agreed};
-
-use crate::equal::same_digest;
-
-// What a machine's draw came to: its number, and the hash that was drawn.
-#[derive(Clone, Copy)]
-pub struct Drawn {
-    pub number: u32,
-    pub hash: [u8; 32],
-}
+ghost use Rattle.verdict.specs.Agree.{one_hash, all_agreed};
 
 // Whether the four machines agree: all drew, and all drew the first one's hash.
-pub fn agree(a: Drawn, b: Drawn, c: Drawn, d: Drawn) -> bool
-    ensures { result ≡ agreed a b c d }
+pub fn agree<E>(draws: &[Result<[u8; 32], E>; 4]) -> bool
+    ensures { result ≡ all_agreed draws.now }
 {
-    if !one_hash(a, b) {
-        return false;
-    }
-    if !one_hash(a, c) {
-        return false;
-    }
-    one_hash(a, d)
+    let [a, b, c, d] = draws;
+    one_hash(a, b) && one_hash(a, c) && one_hash(a, d)
 }
 
 // Whether two machines drew, and drew one hash.
-pub fn one_hash(a: Drawn, b: Drawn) -> bool
-    ensures { result ≡ one_hash a b }
+pub fn one_hash<E>(a: &Result<[u8; 32], E>, b: &Result<[u8; 32], E>) -> bool
+    ensures { result ≡ one_hash a.now b.now }
 {
-    if a.number != 0 {
-        return false;
+    match (a, b) {
+        (Ok(first), Ok(second)) => first == second,
+        _ => false,
     }
-    if b.number != 0 {
-        return false;
-    }
-    let first = a.hash;
-    let second = b.hash;
-    same_digest(first, second)
 }

@@ -1,83 +1,82 @@
 // Checking segment proofs, plain and anchored: the address that a proof leads to, against the one asked for.
-ghost use Rattle.std.specs.Prelude.{◌≡◌, [], ◌%◌, length};
+ghost use Rattle.std.specs.Prelude.{◌≡◌, [], ◌%◌};
+ghost use Rattle.octets.specs.Order.{byte_order};
 ghost use Rattle.merkle.specs.Tree.{hash};
 ghost use Rattle.merkle.specs.Proof.{paired, climbed, rebuilt};
-ghost use Rattle.verifying.specs.Answer.{checked_number, verdict, checked, anchored_checked};
+ghost use Rattle.verifying.specs.Answer.{error_number, verdict, checked, anchored_checked};
 
-use moving::put;
-use octets::order::{Order, compare};
+use answers::Numbered;
 use tree::hash;
 
+// Why a proof is not one.
 #[derive(Clone, Copy)]
-pub enum ProofChecked {
-    Passes,
+pub enum CheckError {
     Fails,
     WrongLength,
     NoSegment,
 }
 
-impl ProofChecked {
-    // Document 01's number for the answer.
-    pub fn number(self) -> u32
-        ensures { result ≡ checked_number self }
-    {
+impl Numbered for CheckError {
+    ghost number = { error_number };
+
+    fn number(&self) -> u32 {
         match self {
-            ProofChecked::Passes => 0,
-            ProofChecked::Fails => 1,
-            ProofChecked::WrongLength => 10,
-            ProofChecked::NoSegment => 11,
+            CheckError::Fails => 1,
+            CheckError::WrongLength => 10,
+            CheckError::NoSegment => 11,
         }
     }
 }
 
 // Whether a proof leads from its segment, at that index, to the address.
-pub fn check_proof(address: &[u8], index: u64, proof: &[u8]) -> ProofChecked
+pub fn check_proof(address: &[u8], index: u64, proof: &[u8]) -> Result<(), CheckError>
     ensures { result ≡ checked [] address.now index proof.now }
 {
     check_over(b"", address, index, proof)
 }
 
 // The same in the anchored tree.
-pub fn check_anchored_proof(anchor: &[u8], address: &[u8], index: u64, proof: &[u8]) -> ProofChecked
+#[tactic(auto, unfolding(crate::specs::Answer::anchored_checked))]
+pub fn check_anchored_proof(
+    anchor: &[u8],
+    address: &[u8],
+    index: u64,
+    proof: &[u8],
+) -> Result<(), CheckError>
     ensures { result ≡ anchored_checked anchor.now address.now index proof.now }
 {
     if anchor.len() != 32 {
-        return ProofChecked::WrongLength;
+        return Err(CheckError::WrongLength);
     }
     check_over(anchor, address, index, proof)
 }
 
-// Checking a proof over a prefix.
-fn check_over(prefix: &[u8], address: &[u8], index: u64, proof: &[u8]) -> ProofChecked
+// Checking a proof over a prefix. What C hands over one by one stands in no struct.
+#[tactic(auto, unfolding(crate::specs::Answer::checked))]
+fn check_over(prefix: &[u8], address: &[u8], index: u64, proof: &[u8]) -> Result<(), CheckError>
     ensures { result ≡ checked prefix.now address.now index proof.now }
 {
-    if address.len() != 32 {
-        return ProofChecked::WrongLength;
-    }
-    if proof.len() != 264 {
-        return ProofChecked::WrongLength;
-    }
+    let address: &[u8; 32] = address.as_array().ok_or(CheckError::WrongLength)?;
+    let proof: &[u8; 264] = proof.as_array().ok_or(CheckError::WrongLength)?;
     if 127 < index {
-        return ProofChecked::NoSegment;
+        return Err(CheckError::NoSegment);
     }
-    let found = rebuilt(prefix, index as usize, proof);
-    verdict(compare(&found, address))
+    verdict(&rebuilt(prefix, index as usize, proof), address)
 }
 
 // A proof passes where the address that it leads to is the one asked for.
-fn verdict(order: Order) -> ProofChecked
-    ensures { result ≡ verdict order }
+fn verdict(found: &[u8; 32], address: &[u8; 32]) -> Result<(), CheckError>
+    ensures { result ≡ verdict (byte_order found.now address.now) }
 {
-    match order {
-        Order::Less => ProofChecked::Fails,
-        Order::Same => ProofChecked::Passes,
-        Order::More => ProofChecked::Fails,
+    if found != address {
+        return Err(CheckError::Fails);
     }
+    Ok(())
 }
 
 // The address that a proof leads to.
-fn rebuilt(prefix: &[u8], index: usize, proof: &[u8]) -> [u8; 32]
-    requires { length proof.now ≡ 264 }
+#[tactic(auto, unfolding(merkle::specs::Proof::rebuilt))]
+fn rebuilt(prefix: &[u8], index: usize, proof: &[u8; 264]) -> [u8; 32]
     ensures { result ≡ rebuilt prefix.now index proof.now }
 {
     let top = climbed(prefix, index, proof);
@@ -85,24 +84,19 @@ fn rebuilt(prefix: &[u8], index: usize, proof: &[u8]) -> [u8; 32]
 }
 
 // The root that the segment and its seven sisters lead to.
-fn climbed(prefix: &[u8], index: usize, proof: &[u8]) -> [u8; 32]
-    requires { length proof.now ≡ 264 }
+fn climbed(prefix: &[u8], index: usize, proof: &[u8; 264]) -> [u8; 32]
     ensures { result ≡ climbed prefix.now index proof.now 7 }
 {
     let mut node = [0u8; 32];
-    put(&mut node, 0, &proof[0..32]);
-    let mut level = 0;
-    while level < 7 {
-        let at = 32 + 32 * level;
-        let next = above(prefix, index >> level, &node, &proof[at..at + 32]);
-        node = next;
-        level += 1;
+    node.copy_from_slice(&proof[0..32]);
+    for (level, sister) in proof[32..256].chunks_exact(32).enumerate() {
+        node = above(prefix, index >> level, &node, sister);
     }
     node
 }
 
 // The node above node n and its sister: an even node stands left.
-fn above(prefix: &[u8], n: usize, node: &[u8], sister: &[u8]) -> [u8; 32]
+fn above(prefix: &[u8], n: usize, node: &[u8; 32], sister: &[u8]) -> [u8; 32]
     ensures { result ≡ hash prefix.now (paired (n % 2) node.now sister.now) }
 {
     if n % 2 == 0 {

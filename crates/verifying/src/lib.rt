@@ -3,4 +3,4 @@
 
 mod checking;
 
-pub use checking::{ProofChecked, check_anchored_proof, check_proof};
+pub use checking::{CheckError, check_anchored_proof, check_proof};

@@ -8,7 +8,8 @@ use native.Mathlib.Omega.{arith}
 use lib.Dec.{eqb}
 use lib.ListN.{length, drop, replicate, length-drop}
 use borrow.Author.Tests.{leb-true, le-leb, ltb-true, lt-ltb, eqb-true, eq-eqb, ne_eqb}
-use Rattle.octets.specs.Order.{byte_order, is_same}
+use Rattle.std.specs.Ordering.{is_eq}
+use Rattle.octets.specs.Order.{byte_order}
 use Rattle.octets.specs.Bytes.{Bytes}
 use Rattle.octets.proofs.Bytes.{bytes_drop}
 use Rattle.octets.proofs.Ordered.{is_same_lem, same_equal, order_self}
@@ -30,7 +31,7 @@ labelled_true s e = let p = both e in (same_equal (mark_in s) mark (is_same_lem 
 
 true_labelled : (s : List ℕ) → mark_in s ≡ mark → version_in s ≡ 1 → labelled s ≡ true
 unfolding labelled
-true_labelled s e f = joined (ap is_same (ap (λ (m : List ℕ). byte_order m mark) e ∙ order_self mark)) (eq-eqb _ _ f)
+true_labelled s e f = joined (ap is_eq (ap (λ (m : List ℕ). byte_order m mark) e ∙ order_self mark)) (eq-eqb _ _ f)
 
 -- length, capacity and count
 

@@ -3,26 +3,26 @@ use mathlib.Core.Path.{◌≡◌, refl, sym, ap, ◌∙◌}
 use mathlib.Core.Bool.{Bool, true, false, ◌&&◌}
 use mathlib.Core.Logic.{◌⊎◌, inl, inr}
 use mathlib.Core.List.{List, [], ◌∷◌}
-use Prim.Native.Nat.{ℕ, suc, ◌+◌, ◌-◌, ◌*◌, ◌≤◌, ◌<◌}
+use Prim.Native.Nat.{ℕ, suc, ◌+◌, ◌≤◌, ◌<◌}
 use native.Mathlib.Numerals.{add-one}
 use native.Mathlib.Nat.{le_of_lt, le_of_eq}
 use native.Mathlib.Omega.{arith}
 use lib.Bits.{bit_or, or_add_and, and_le_l, and_le_r}
 use lib.Dec.{eqb, ltb}
 use lib.ListN.{length, get_or, take, drop, drop_of_length-le}
-use lib.Seq.{drop-cons, take-take}
+use lib.Seq.{drop-cons, length-take-le}
 use borrow.Author.Tests.{eq-eqb, ne_eqb, eqb-true, eqb-false, le-ltb, lt-ltb}
-use Rattle.octets.specs.Order.{byte_order, number_order, is_less}
+use Rattle.std.specs.List.{starts_with}
+use Rattle.std.specs.declared.cmp.Ordering.{Ordering}
+use Rattle.std.specs.Ordering.{ordering_then, is_lt, is_eq}
+use Rattle.octets.specs.Order.{byte_order, number_order}
 use Rattle.octets.specs.Bytes.{Bytes}
-use Rattle.octets.specs.Number.{big}
-use Rattle.octets.specs.Pieces.{pieces}
-use Rattle.octets.proofs.Bytes.{bytes_take, bytes_drop}
+use Rattle.octets.proofs.Bytes.{bytes_take}
 use Rattle.octets.proofs.Ordered.{compared, number_less, number_same, number_more, order_number}
-use Rattle.octets.proofs.Parts.{part_length}
 use Rattle.records.specs.Record.{slot}
 use Rattle.wellformed.specs.Check.{stands, all_stand, rises, zeros}
+use Rattle.book.specs.Layout.{mark, mark_in}
 use Rattle.book.proofs.Truths.{paired}
-use Rattle.book.proofs.Cuts.{records_from, records_none}
 
 -- zeros
 
@@ -34,7 +34,7 @@ pub zeros_cons : (x : ℕ) (s : List ℕ) → zeros (x ∷ s) ≡ (eqb x 0 && ze
 unfolding zeros
 zeros_cons x s = refl
 
-grouped : (a b c : Bool) → (a && (b && c)) ≡ ((a && b) && c)
+pub grouped : (a b c : Bool) → (a && (b && c)) ≡ ((a && b) && c)
 grouped true b c = refl
 grouped false b c = refl
 
@@ -85,41 +85,55 @@ module _ (depth : ℕ) (overlay : List ℕ) where
           kept true = refl
           kept false = refl
 
-module _ (s : List ℕ) (n i : ℕ) where
+-- the mark: one byte after another decides, as the order of the two does
+pub marked : (s : List ℕ) → 3 ≤ length s → starts_with eqb s mark ≡ is_eq (byte_order (mark_in s) mark)
+unfolding byte_order
+marked [] h = absurd (omega arith)
+marked (a ∷ []) h = absurd (omega arith)
+marked (a ∷ b ∷ []) h = absurd (omega arith)
+marked (a ∷ b ∷ c ∷ s) h = sym (one a 0x52 _ ∙ ap (λ (x : Bool). eqb 0x52 a && x) (one b 0x53 _ ∙ ap (λ (x : Bool). eqb 0x53 b && x) (one c 0x56 _)))
+  where
+    one : (x y : ℕ) (o : Ordering) → is_eq (ordering_then (number_order x y) o) ≡ (eqb y x && is_eq o)
+    one x y o = go (compared x y)
+      where
+        go : (x < y) ⊎ ((x ≡ y) ⊎ (y < x)) → is_eq (ordering_then (number_order x y) o) ≡ (eqb y x && is_eq o)
+        go (inl h) = rw (number_less x y h, ne_eqb y x (λ e. omega arith))
+        go (inr (inl h)) = rw (number_same x y h, eq-eqb y x (sym h))
+        go (inr (inr h)) = rw (number_more x y h, ne_eqb y x (λ e. omega arith))
+
+-- a slot stands below another as their bytes do
+pub slots_below : (r q : List ℕ) → length r ≡ 145 → length q ≡ 145 → Bytes r → Bytes q → is_lt (byte_order (take 40 r) (take 40 q)) ≡ ltb (slot r) (slot q)
+slots_below r q h k b d =
+    let e : length (take 40 r) ≡ length (take 40 q) = length-take-le 40 r (omega arith) ∙ sym (length-take-le 40 q (omega arith)) in
+    ap is_lt (order_number (take 40 r) (take 40 q) e (bytes_take 40 r b) (bytes_take 40 q d)) ∙ less_is (slot r) (slot q)
+  where
+    less_is : (a c : ℕ) → is_lt (number_order a c) ≡ ltb a c
+    less_is a c = go (compared a c)
+      where
+        go : (a < c) ⊎ ((a ≡ c) ⊎ (c < a)) → is_lt (number_order a c) ≡ ltb a c
+        go (inl q) = rw (number_less a c q, lt-ltb a c q)
+        go (inr (inl q)) = rw (number_same a c q, le-ltb a c (le_of_eq (sym q)))
+        go (inr (inr q)) = rw (number_more a c q, le-ltb a c (le_of_lt q))
+
+module _ (l : List (List ℕ)) (i : ℕ) (r : List ℕ) where
   -- the last record has no neighbour
-  pub last_rises : i + 1 ≡ n → rises (take 2 (pieces 145 (n - i) (drop (48 + 145 * i) s))) ≡ true
+  pub last_rises : length l ≤ i + 1 → rises (take 2 (r ∷ drop (i + 1) l)) ≡ true
   unfolding rises
-  last_rises e = rw (records_from s n i (omega arith), records_none s n (i + 1) (omega arith))
+  last_rises h = rw (drop_of_length-le l {i = i + 1} h)
 
-  -- any other stands below the next as the bytes of their slots do
-  pub next_rises : Bytes s → i + 1 < n → 48 + 145 * n ≤ length s
-      → rises (take 2 (pieces 145 (n - i) (drop (48 + 145 * i) s))) ≡ is_less (byte_order (take 40 (drop (48 + 145 * i) s)) (take 40 (drop (48 + 145 * (i + 1)) s)))
+  pub next_rises : i + 1 < length l → rises (take 2 (r ∷ drop (i + 1) l)) ≡ ltb (slot r) (slot (get_or l (i + 1) []))
   unfolding rises
-  next_rises b h k =
-      let x = drop (48 + 145 * i) s in
-      let y = drop (48 + 145 * (i + 1)) s in
-      let e : length (take 40 x) ≡ length (take 40 y) = part_length s (48 + 145 * i) 40 (omega arith) ∙ sym (part_length s (48 + 145 * (i + 1)) 40 (omega arith)) in
-      let bx : Bytes (take 40 x) = bytes_take 40 x (bytes_drop (48 + 145 * i) s b) in
-      let by : Bytes (take 40 y) = bytes_take 40 y (bytes_drop (48 + 145 * (i + 1)) s b) in
-      rw (records_from s n i (omega arith), records_from s n (i + 1) h, take-take 40 145 x (omega arith), take-take 40 145 y (omega arith), order_number (take 40 x) (take 40 y) e bx by)
-      (less_is (big (take 40 x)) (big (take 40 y)))
+  next_rises h = rw (drop-cons l (i + 1) [] h) (kept (ltb (slot r) (slot (get_or l (i + 1) []))))
     where
-      less_is : (a c : ℕ) → (ltb a c && true) ≡ is_less (number_order a c)
-      less_is a c = go (compared a c)
-        where
-          go : (a < c) ⊎ ((a ≡ c) ⊎ (c < a)) → (ltb a c && true) ≡ is_less (number_order a c)
-          go (inl q) = rw (number_less a c q, lt-ltb a c q)
-          go (inr (inl q)) = rw (number_same a c q, le-ltb a c (le_of_eq (sym q)))
-          go (inr (inr q)) = rw (number_more a c q, le-ltb a c (le_of_lt q))
+      kept : (a : Bool) → (a && true) ≡ a
+      kept true = refl
+      kept false = refl
 
+module _ (depth : ℕ) (overlay : List ℕ) (l : List (List ℕ)) (i : ℕ) where
   -- a turn of the pass
-  pub turn : (depth : ℕ) (overlay : List ℕ) → i < n
-      → both_hold depth overlay (pieces 145 (n - i) (drop (48 + 145 * i) s))
-      ≡ (stands depth overlay (take 145 (drop (48 + 145 * i) s))
-      && (rises (take 2 (pieces 145 (n - i) (drop (48 + 145 * i) s)))
-      && both_hold depth overlay (pieces 145 (n - (i + 1)) (drop (48 + 145 * (i + 1)) s))))
-  turn depth overlay h = rw (records_from s n i h) (both_first depth overlay (take 145 (drop (48 + 145 * i) s)) (pieces 145 (n - (i + 1)) (drop (48 + 145 * (i + 1)) s)))
+  pub turn : i < length l → both_hold depth overlay (drop i l) ≡ (stands depth overlay (get_or l i []) && (rises (take 2 (get_or l i [] ∷ drop (i + 1) l)) && both_hold depth overlay (drop (i + 1) l)))
+  turn h = rw (add-one, drop-cons l i [] h) (both_first depth overlay (get_or l i []) (drop (suc i) l))
 
-  pub passed : (depth : ℕ) (overlay : List ℕ) → n ≤ i → both_hold depth overlay (pieces 145 (n - i) (drop (48 + 145 * i) s)) ≡ true
+  pub passed : length l ≤ i → both_hold depth overlay (drop i l) ≡ true
   unfolding rises all_stand
-  passed depth overlay h = rw (records_none s n i h)
+  passed h = rw (drop_of_length-le l h)

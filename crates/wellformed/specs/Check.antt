@@ -1,15 +1,17 @@
 -- Being well formed as a test that computes; `tested` in proofs/ shows that it says what Layout's list says.
-use Rattle.std.specs.Prelude.{Bool, true, cond, ◌&&◌, ◌||◌, List, [], ◌∷◌, ℕ, ◌+◌, ◌*◌, ◌^◌, eqb, leb, ltb, length, drop}
-use Rattle.octets.specs.Order.{byte_order, is_same}
+use Rattle.std.specs.Prelude.{Bool, true, cond, ◌&&◌, ◌||◌, Result, Ok, Err, List, [], ◌∷◌, ℕ, ◌+◌, ◌*◌, ◌^◌, eqb, leb, ltb, length, drop}
+use Rattle.std.specs.Ordering.{is_eq}
+use Rattle.octets.specs.Order.{byte_order}
 use Rattle.nearness.specs.Bits.{shared_bits}
-use Rattle.wellformed.specs.declared.check.BookAnswer.{BookAnswer}
-use Rattle.wellformed.specs.declared.check.BookAnswer.TheVariants.{WellFormed, NotWellFormed}
+use Rattle.answers.specs.Number.{done, answer_number}
+use Rattle.wellformed.specs.declared.check.BookError.{BookError}
+use Rattle.wellformed.specs.declared.check.BookError.TheVariants.{NotWellFormed}
 use Rattle.records.specs.Record.{slot, bucket_in, index_in, address_in, bucket_of}
 use Rattle.book.specs.Layout.{mark, mark_in, version_in, state_in, starting_in, depth_in, overlay_in, capacity_in, count_in, records_in}
 
 -- mark and version
 unfoldable pub labelled : List ℕ → Bool
-labelled s = is_same (byte_order (mark_in s) mark) && eqb (version_in s) 1
+labelled s = is_eq (byte_order (mark_in s) mark) && eqb (version_in s) 1
 
 -- length, capacity and count
 unfoldable pub sized : ℕ → ℕ → ℕ → Bool
@@ -53,9 +55,11 @@ well_formed s =
     && zeros (drop (48 + 145 * count_in s) s))))
 
 -- the answer, and for each answer the number handed back
-unfoldable pub checked : List ℕ → BookAnswer
-checked s = cond (well_formed s) WellFormed NotWellFormed
+unfoldable pub checked : List ℕ → Result (Unit {0}) BookError
+checked s = cond (well_formed s) (Ok tt) (Err NotWellFormed)
 
-abbrev pub book_number : BookAnswer → ℕ
-book_number WellFormed = 0
-book_number NotWellFormed = 13
+abbrev pub error_number : BookError → ℕ
+error_number NotWellFormed = 13
+
+abbrev pub book_number : Result (Unit {0}) BookError → ℕ
+book_number = answer_number done error_number

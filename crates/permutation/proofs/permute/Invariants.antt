@@ -1,11 +1,7 @@
--- `permutation::permute` meets its contract. The loop's invariant: after i turns i rounds are done.
+-- The loop's invariant: after so many turns as many rounds are done.
 use mathlib.Core.Path.{◌≡◌}
-use Prim.Native.Nat.{◌≤◌, ◌-◌}
 use Rattle.permutation.specs.Permutation.{rounds}
 use Rattle.permutation.proofs.permute.Given as goal
 
-abbrev pub invariant-loop-i : goal.invariant-loop-i
-invariant-loop-i l = (l.i ≤ 24) × (l.a ≡ rounds l.i l.initial.a)
-
-abbrev pub decreases-loop-i : goal.decreases-loop-i
-decreases-loop-i l = 24 - l.i
+abbrev pub invariant-loop-rc : goal.invariant-loop-rc
+invariant-loop-rc l = l.a ≡ rounds l.rc-index l.initial.a

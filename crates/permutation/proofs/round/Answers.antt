@@ -5,5 +5,5 @@ use Rattle.permutation.proofs.round.Goals as goal
 pub returns : goal.returns
 returns c =
     let g = c.args in
-    by_rows g.a c.column_parities-d.result c.row0-p.result c.row1-q.result c.row2-r.result c.row3-s.result c.row4-t.result g.rc
-    c.column_parities-d.ensures c.row0-p.ensures c.row1-q.ensures c.row2-r.ensures c.row3-s.ensures c.row4-t.ensures
+    by_rows g.a c.column_parities-d.result c.row-p.result c.row-q.result c.row-r.result c.row-s.result c.row-t.result g.rc
+    c.column_parities-d.ensures c.row-p.ensures c.row-q.ensures c.row-r.ensures c.row-s.ensures c.row-t.ensures

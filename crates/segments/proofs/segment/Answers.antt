@@ -1,15 +1,8 @@
 -- `segments::segment` meets its contract.
-use mathlib.Core.Path.{ap}
-use Prim.Native.Nat.{ℕ, ◌*◌}
-use Rattle.merkle.specs.Segment.{onward}
+use Rattle.std.proofs.Common.{◌*◌}
 use Rattle.merkle.proofs.Stretch.{stretch_is}
 use Rattle.segments.proofs.segment.Goals as goal
 
-pub returns : goal.returns
-returns c =
-    let g = c.args in
-    record {
-      result_value =
-          stretch_is (32 * g.index) 32 g.«data».now c.segment_start-start.result c.lesser-end.result c.segment_start-start.ensures c.lesser-end.ensures;
-      ref_ptr_value = ap (λ (n : ℕ). onward n g.«data».ref_ptr) c.segment_start-start.ensures;
-    }
+pub returns-clause-result_value : goal.returns-clause-result_value
+returns-clause-result_value c =
+    stretch_is (32 * c.args.index) 32 c.args.«data».now c.segment_start-start.result c.min-end.result c.segment_start-start.ensures c.min-end.ensures

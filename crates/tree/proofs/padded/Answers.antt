@@ -1,8 +1,7 @@
 -- `tree::padded` meets its contract.
-use mathlib.Core.Path.{◌∙◌}
-use native.Mathlib.Omega.{arith}
-use Rattle.merkle.proofs.Stretch.{pad_placed}
+use Rattle.std.proofs.Common.{◌++◌, List, ℕ, length, drop, replicate, ap, ◌∙◌, arith}
+use Rattle.merkle.proofs.Stretch.{pad_laid}
 use Rattle.tree.proofs.padded.Goals as goal
 
 pub returns : goal.returns
-returns c = c.put.ensures ∙ pad_placed 32 c.args.part.now (omega arith)
+returns c = ap (λ (s : List ℕ). s ++ drop (length c.args.part.now) (replicate 32 0)) c.copy_from_slice.ensures.after ∙ pad_laid 32 c.args.part.now (omega arith)

@@ -1,17 +1,16 @@
--- Refused as the cell is; past that its pair is entered.
-use mathlib.Core.Path.{sym, ◌∙◌}
-use Rattle.draw.proofs.Taking.{cell_refused, cell_taken}
+-- The pair of a sound cell is entered.
+use Rattle.std.proofs.Common.{sym, ◌∙◌, rules}
+use Rattle.draw.proofs.Taking.{few_held, cell_taken}
 use Rattle.draw.proofs.drawing.take_cell.Goals as goal
 
-pub returns-then-not-is_done : goal.returns-then-not-is_done
-returns-then-not-is_done c =
+pub invariant_of-smallest : goal.invariant_of-smallest
+invariant_of-smallest c =
     let a = c.args in
-    cell_refused a.rest.now a.recorded.now a.place a.anchor.now a.best.now a.held c.read_cell-read.result c.read_cell-read.ensures c.of_cell-answer.result c.of_cell-answer.ensures
-    (sym c.is_done.ensures ∙ c.if-not-is_done.true)
+    let s = a.smallest.now in
+    record { most = few_held a.rest.now a.recorded.now a.anchor.now c.in_ok-read.read (sym c.read_cell.ensures ∙ c.in_ok-read.was) (search rules) s (search rules) s.most c.enter-smallest.result c.enter-smallest.ensures.result }
 
-pub returns : goal.returns
-returns c =
+pub returns-clause-taken : goal.returns-clause-taken
+returns-clause-taken c =
     let a = c.args in
-    cell_taken a.rest.now a.recorded.now a.place a.anchor.now a.best.now a.held c.read_cell-read.result c.read_cell-read.ensures c.of_cell-answer.result c.of_cell-answer.ensures
-    (sym c.is_done.ensures ∙ c.if-not-is_done.false) c.requires.0 c.requires.1.0 c.requires.1.1
-    c.enter-more.result c.enter-more.new.best c.enter-more.ensures.result c.enter-more.ensures.bytes
+    let s = a.smallest.now in
+    cell_taken a.rest.now a.recorded.now a.anchor.now c.in_ok-read.read (sym c.read_cell.ensures ∙ c.in_ok-read.was) (search rules) s (search rules) s.most _ c.enter-smallest.ensures.result c.enter-smallest.ensures.bytes

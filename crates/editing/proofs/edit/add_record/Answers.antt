@@ -1,5 +1,5 @@
--- Each way out is that of the tests that led to it.
-use borrow.Author.Tests.{le-leb, lt-leb, eq-eqb, ne_eqb}
+-- One record more.
+use borrow.Author.Tests.{le-leb, eq-eqb}
 use mathlib.Core.Path.{ap, ◌∙◌}
 use mathlib.Core.List.{List}
 use Prim.Native.Nat.{ℕ, ◌+◌}
@@ -8,26 +8,8 @@ use Rattle.moving.specs.Moving.{placed}
 use Rattle.editing.specs.Edit.{added}
 use Rattle.editing.proofs.edit.add_record.Goals as goal
 
-pub returns-then-count-gt65535 : goal.returns-then-count-gt65535
+pub returns-then-count-book : goal.returns-then-count-book
 unfolding added
-returns-then-count-gt65535 c = rw (lt-leb _ _ c.if-count-gt65535.true)
-
-pub returns-then-count-at : goal.returns-then-count-at
-unfolding added
-returns-then-count-at c = rw (le-leb _ _ c.if-count-gt65535.false, lt-leb _ _ c.if-count-at.true)
-
-pub returns-then-given-ne145 : goal.returns-then-given-ne145
-unfolding added
-returns-then-given-ne145 c = rw (le-leb _ _ c.if-count-gt65535.false, le-leb _ _ c.if-count-at.false, ne_eqb _ _ c.if-given-ne145.true)
-
-pub returns-then-book-count : goal.returns-then-book-count
-unfolding added
-returns-then-book-count c =
-    rw (le-leb _ _ c.if-count-gt65535.false, le-leb _ _ c.if-count-at.false, eq-eqb _ _ c.if-given-ne145.false, lt-leb _ _ c.if-book-count.true)
-
-pub returns : goal.returns
-unfolding added
-returns c =
-    let a = c.args in
-    rw (le-leb _ _ c.if-count-gt65535.false, le-leb _ _ c.if-count-at.false, eq-eqb _ _ c.if-given-ne145.false, le-leb _ _ c.if-book-count.false)
-    (c.write32.ensures ∙ ap (λ (x : List ℕ). placed x 44 (bytes_of 4 (a.count + 1))) c.insert.ensures)
+returns-then-count-book c =
+    rw (le-leb _ _ c.if-count-le65535.true, le-leb _ _ c.if-at-count.true, eq-eqb _ _ c.if-given-eq145.true, le-leb _ _ c.if-count-book.true)
+    (c.write.ensures ∙ ap (λ (l : List ℕ). placed l 44 (bytes_of 4 (c.args.count + 1))) c.insert.ensures)

@@ -1,5 +1,6 @@
 use borrow.Author.Rules.{rules}
-use mathlib.Core.Path.{◌≡◌, sym}
+use Prim.Native.Nat.{◌+◌, ◌-◌}
+use mathlib.Core.Path.{◌≡◌, sym, ◌∙◌}
 use native.Mathlib.Omega.{arith}
 use lib.ListN.{length}
 use Rattle.settling.proofs.Least.{descent_start, descent_next, descent_stop}
@@ -19,7 +20,8 @@ pub returns-then-capacity-kept : goal.returns-then-capacity-kept
 returns-then-capacity-kept c =
     let a = c.args in
     let inner = c.loop-depth.invariant.2 (omega (arith, c.loop-depth.invariant.1)) in
-    sym (descent_stop a.capacity a.counters a.from c.loop-depth.depth c.loop-depth.kept inner (omega arith) (omega arith))
+    let e : c.loop-depth.depth - 1 + 1 ≡ c.loop-depth.depth = omega arith in
+    e ∙ sym (descent_stop a.capacity a.counters a.from c.loop-depth.depth c.loop-depth.kept inner (omega arith) (omega arith))
 
 pub overflow_add-kept : goal.overflow_add-kept
 overflow_add-kept c =

@@ -1,43 +1,34 @@
-use mathlib.Core.Path.{refl}
+-- Each record raises the counter of its nearness.
 use native.Mathlib.Omega.{arith}
-use Prim.Native.Nat.{◌-◌}
-use lib.ListN.{length-set}
 use Rattle.settling.proofs.Counters.{counters_none}
 use Rattle.book.specs.Shape.{shape_in}
 use Rattle.filing.proofs.Counting
 use Rattle.filing.proofs.least.tally.Goals as goal
 
-pub loop-i-init : goal.loop-i-init
-loop-i-init c = (omega arith, refl, counters_none (shape_in c.args.book.now))
-
-pub offset_bounds-counters-reach : goal.offset_bounds-counters-reach
-offset_bounds-counters-reach c = omega (arith, Counting.near_most _ _ c.near_at-reach.result c.near_at-reach.ensures)
-
-pub bounds-counters-reach : goal.bounds-counters-reach
-bounds-counters-reach c = omega (arith, Counting.near_most _ _ c.near_at-reach.result c.near_at-reach.ensures)
+pub loop-held-init : goal.loop-held-init
+loop-held-init c = counters_none (shape_in c.args.header.now)
 
 pub overflow_add-counters : goal.overflow_add-counters
 overflow_add-counters c =
     let a = c.args in
-    omega (arith, Counting.counter_small a.book.now a.count c.loop-i.counters c.loop-i.i (omega arith) c.loop-i.invariant.2 c.near_at-reach.result (Counting.near_most _ _ c.near_at-reach.result c.near_at-reach.ensures))
+    let small =
+    Counting.counter_small a.header.now (omega arith) c.loop-held.counters a.records.now c.loop-held.held-index c.loop-held.invariant (omega arith) c.near.result (Counting.near_few _ _ _ c.near.ensures) in
+    record { fits = omega (arith, small) }
 
-pub bounds-counters-reach-in-loop-i : goal.bounds-counters-reach-in-loop-i
-bounds-counters-reach-in-loop-i c = omega (arith, Counting.near_most _ _ c.near_at-reach.result c.near_at-reach.ensures)
-
-pub loop-i-preserved : goal.loop-i-preserved
-loop-i-preserved c =
-    let a = c.args in (
-      omega arith,
-      simp length-set c.loop-i.invariant.1,
-      Counting.counted_next a.book.now a.count c.loop-i.counters c.loop-i.i (omega arith) c.loop-i.invariant.2 c.near_at-reach.result (omega arith) c.near_at-reach.ensures,
-    )
+pub loop-held-preserved : goal.loop-held-preserved
+loop-held-preserved c =
+    let a = c.args in
+    let i = c.loop-held.held-index in
+    Counting.counted_next a.header.now (omega arith) c.loop-held.counters a.records.now i c.loop-held.invariant c.near.result c.loop-held-test.true (c.told-records i c.loop-held-test.true) c.near.ensures
 
 pub overflow_add-counters-2 : goal.overflow_add-counters-2
 overflow_add-counters-2 c =
     let a = c.args in
-    omega (arith, Counting.counter_small a.book.now a.count c.loop-i.counters c.loop-i.i (omega arith) c.loop-i.invariant.2 a.own (omega arith))
+    let small =
+    Counting.counter_small a.header.now (omega arith) c.loop-held.counters a.records.now c.loop-held.held-index c.loop-held.invariant (omega arith) c.near-2.result (Counting.near_few _ _ _ c.near-2.ensures) in
+    record { fits = omega (arith, small) }
 
 pub returns : goal.returns
 returns c =
     let a = c.args in
-    λ r e. Counting.counted_all a.book.now a.count c.loop-i.counters c.loop-i.i (omega arith) c.loop-i.invariant.2 (omega arith) a.own r e
+    Counting.counted_all a.header.now (omega arith) c.loop-held.counters a.records.now c.loop-held.held-index c.loop-held.invariant c.loop-held-test.false c.near-2.result a.given.now (omega arith) c.near-2.ensures

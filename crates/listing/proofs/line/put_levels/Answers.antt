@@ -5,11 +5,9 @@ use Rattle.listing.specs.Line.{space, line}
 use Rattle.listing.proofs.Puts
 use Rattle.listing.proofs.line.put_levels.Goals as goal
 
-pub returns : goal.returns
+pub returns-clause-put : goal.returns-clause-put
 unfolding line
-returns c =
-    let text =
-    Puts.number_then space refl (omega arith) c.put_number-second.ensures.put
-    (Puts.number_then space refl (omega arith) c.put_number-third.ensures.put
-    (Puts.number_then space refl (omega arith) c.put_number-fourth.ensures.put c.put_number.ensures.put)) in
-    record { put = text; upper_bound = omega arith }
+returns-clause-put c =
+    Puts.number_then space c.from.ensures (omega arith) c.number.ensures.put
+    (Puts.number_then space c.from-2.ensures (omega arith) c.number-2.ensures.put
+    (Puts.number_then space refl (omega arith) c.number-3.ensures.put c.number-4.ensures.put))

@@ -1,35 +1,23 @@
-use Prim.Native.Nat.{ℕ, ◌-◌}
-use mathlib.Core.Path.{◌≡◌, refl, sym, ◌∙◌}
+use mathlib.Core.Path.{◌≡◌, sym, ap, ◌∙◌}
+use mathlib.Core.List.{List}
 use native.Mathlib.Omega.{arith}
-use lib.ListN.{length, replicate, length-set, length-replicate}
-use lib.Seq.{paste-zero}
+use Prim.Native.Nat.{ℕ, ◌+◌, ◌-◌, ◌≤◌}
+use lib.ListN.{length, take, drop, replicate, length-take, length-drop, length-replicate}
+use borrow.Author.Tests.{leb-true}
+use Rattle.moving.specs.Moving.{placed}
 use Rattle.moving.proofs.Edits
-use Rattle.moving.proofs.Turns
 use Rattle.moving.proofs.edit.clear.Goals as goal
 
-pub returns-then-s-at : goal.returns-then-s-at
-returns-then-s-at c =
+pub returns-then-fits : goal.returns-then-fits
+returns-then-fits c =
     let a = c.args in
-    sym (Edits.placed_not a.s.now a.at (replicate a.n 0) (omega (arith, length-replicate {A = ℕ} a.n 0)))
+    let zeros : List ℕ = replicate a.n 0 in
+    let count : length zeros ≡ a.n = length-replicate a.n 0 in
+    let room : a.at + a.n ≤ length a.s.now = leb-true _ _ (sym c.fits.ensures ∙ c.if-fits.true) in
+    let part : length (take (a.at + a.n - a.at) (drop a.at a.s.now)) ≡ a.n = simp (length-take, length-drop) (omega arith) in
+    Edits.over_put a.s.now a.at _ zeros _ (c.fill.ensures.after (λ y e. e) ∙ ap (λ m. replicate m 0) part) (omega arith)
+    ∙ sym (Edits.placed_fits a.s.now a.at zeros (omega arith))
 
-pub returns-then-s-at-2 : goal.returns-then-s-at-2
-returns-then-s-at-2 c =
-    let a = c.args in
-    sym (Edits.placed_not a.s.now a.at (replicate a.n 0) (omega (arith, length-replicate {A = ℕ} a.n 0)))
-
-pub loop-i-init : goal.loop-i-init
-loop-i-init c = let a = c.args in
-    (omega arith, paste-zero a.s.now a.at (replicate a.n 0), refl)
-
-pub loop-i-preserved : goal.loop-i-preserved
-loop-i-preserved c =
-    let a = c.args in
-    let turn = Turns.clear_more c.loop-i.s a.s.now a.at a.n c.loop-i.i c.loop-i.invariant.1 (omega arith) (omega arith) in
-    (omega arith, turn, simp length-set c.loop-i.invariant.2)
-
-pub returns : goal.returns
-returns c =
-    let a = c.args in
-    let zeros = replicate {A = ℕ} a.n 0 in
-    let count : length zeros ≡ a.n = length-replicate {A = ℕ} a.n 0 in
-    c.loop-i.invariant.1 ∙ Turns.put_all a.s.now a.at zeros c.loop-i.i (omega arith) ∙ sym (Edits.placed_fits a.s.now a.at zeros (omega arith))
+pub returns-else-fits : goal.returns-else-fits
+unfolding placed
+returns-else-fits c = rw (length-replicate {A = ℕ} c.args.n 0, sym c.fits.ensures ∙ c.if-fits.false)

@@ -1,23 +1,22 @@
--- Where v fits, a gap is opened and v put there.
 use mathlib.Core.Path.{sym, ap, ◌∙◌}
 use native.Mathlib.Omega.{arith}
-use Rattle.moving.specs.Moving.{placed}
+use borrow.Author.Tests.{le-leb, leb-true}
+use Rattle.moving.specs.Moving.{placed, inserted}
 use Rattle.moving.proofs.Edits
 use Rattle.moving.proofs.edit.insert.Goals as goal
+use Rattle.moving.proofs.edit.insert.Goals.{else-at-end-via-then-at-end+else-fits, else-at-end-via-else-at-end}
 
-pub returns-then-end-at : goal.returns-then-end-at
-returns-then-end-at c = let a = c.args in
-    sym (Edits.inserted_down a.s.now a.at a.end a.v.now (omega arith))
-
-pub returns-then-s-end : goal.returns-then-s-end
-returns-then-s-end c = let a = c.args in
-    sym (Edits.inserted_not a.s.now a.at a.end a.v.now (omega arith) (omega arith))
-
-pub returns-then-s-end-2 : goal.returns-then-s-end-2
-returns-then-s-end-2 c = let a = c.args in
-    sym (Edits.inserted_not a.s.now a.at a.end a.v.now (omega arith) (omega arith))
-
-pub returns : goal.returns
-returns c =
+pub returns-then-fits : goal.returns-then-fits
+returns-then-fits c =
     let a = c.args in
-    c.put.ensures ∙ ap (λ l. placed l a.at a.v.now) c.raise.ensures ∙ Edits.inserted_raised a.s.now a.at a.end a.v.now (omega arith) (omega arith)
+    c.put.ensures ∙ ap (λ l. placed l a.at a.v.now) c.raise.ensures
+    ∙ Edits.inserted_raised a.s.now a.at a.end a.v.now c.if-at-end.true (leb-true _ _ (sym c.fits.ensures ∙ c.if-fits.true))
+
+pub returns-else-at-end : goal.returns-else-at-end
+unfolding inserted
+returns-else-at-end c =
+    let a = c.args in
+    elim c.else-at-end.branch [
+      | else-at-end-via-then-at-end+else-fits w ↦ rw (le-leb a.at a.end w.if-at-end.true, sym w.fits.ensures ∙ w.if-fits.false)
+      | else-at-end-via-else-at-end w ↦ sym (Edits.inserted_down a.s.now a.at a.end a.v.now (omega arith))
+    ]

@@ -1,11 +1,7 @@
--- Where the eight bytes are there, the number is `little_word`'s.
-use mathlib.Core.Path.{sym}
-use native.Mathlib.Omega.{arith}
-use Rattle.octets.proofs.Numbers
+-- Of the bytes that are there, or of zeros, std makes the number.
+use mathlib.Core.Path.{◌∙◌}
+use Rattle.octets.proofs.Words
 use Rattle.octets.proofs.number.read_little64.Goals as goal
 
-pub returns-then-s-lt8 : goal.returns-then-s-lt8
-returns-then-s-lt8 c = sym (Numbers.little_at_not 8 _ _ (omega arith))
-
-pub returns-then-s-at : goal.returns-then-s-at
-returns-then-s-at c = sym (Numbers.little_at_not 8 _ _ (omega arith))
+pub returns : goal.returns
+returns c = c.from_le_bytes.ensures ∙ Words.little_read 7 c.args.s.now c.args.at c.unwrap_or.result c.part.result c.unwrap_or.ensures c.part.ensures

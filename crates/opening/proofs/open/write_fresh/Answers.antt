@@ -8,23 +8,23 @@ use Rattle.opening.proofs.open.write_fresh.Goals as goal
 
 pub bounds-book-6 : goal.bounds-book-6
 bounds-book-6 c =
-    let long : length c.put.new.s ≡ 48 + 145 * c.args.capacity = c.put.auto.s ∙ c.clear.auto.s ∙ c.requires.1 in
+    let long : length c.put.new.s ≡ 48 + 145 * c.args.capacity = c.put.auto.s ∙ c.fill.ensures.len ∙ c.requires in
     simp length-set (omega (arith, long))
 
 pub bounds-book-7 : goal.bounds-book-7
 bounds-book-7 c =
-    let long : length c.put.new.s ≡ 48 + 145 * c.args.capacity = c.put.auto.s ∙ c.clear.auto.s ∙ c.requires.1 in
+    let long : length c.put.new.s ≡ 48 + 145 * c.args.capacity = c.put.auto.s ∙ c.fill.ensures.len ∙ c.requires in
     simp length-set (omega (arith, long))
 
 pub shape_of-book : goal.shape_of-book
 shape_of-book c =
-    c.write32.auto.s ∙ c.put-2.auto.s ∙ simp length-set (c.put.auto.s ∙ c.clear.auto.s)
+    c.write.auto.s ∙ c.put-2.auto.s ∙ simp length-set (c.put.auto.s ∙ c.fill.ensures.len)
 
 pub returns : goal.returns
 returns c =
     let a = c.args in
-    Fresh.fresh_written a.overlay.now a.capacity a.starting c.requires.0 a.book.now c.clear.new.s c.put.new.s c.put-2.new.s c.write32.new.s c.requires.1
-    c.clear.ensures
+    Fresh.fresh_written a.overlay.now a.capacity a.starting (omega arith) a.book.now c.fill.new.self c.put.new.s c.put-2.new.s c.write.new.s c.requires
+    (c.fill.ensures.after (λ y e. e))
     c.put.ensures
     c.put-2.ensures
-    c.write32.ensures
+    c.write.ensures

@@ -1,4 +1,4 @@
--- A bucket has at most 2 ^ 24 slots, so no bit of their number is lost.
+-- A bucket has at most 2 ^ 24 slots, so no bit of their number is lost. (The check finds this alone; of a wrong test it would only give up.)
 use mathlib.Core.Path.{◌≡◌, ◌∙◌}
 use Prim.Native.Nat.{◌-◌, ◌*◌, ◌%◌, ◌^◌}
 use native.Mathlib.Nat.{one-mul}
@@ -14,4 +14,4 @@ unfolding in_slots slots_of
 returns c =
     let shift = get_or c.args.batch.now 52 0 - 16 in
     let all : 1 * 2 ^ shift % 2 ^ 32 ≡ 2 ^ shift = shl_exact 1 shift 32 (omega arith) (omega (arith, c.requires.is_fit.most)) ∙ one-mul (2 ^ shift) in
-    rw (c.read32.ensures, all)
+    rw (c.read.ensures, all)

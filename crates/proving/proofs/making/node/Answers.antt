@@ -15,7 +15,7 @@ returns c =
     let p = x.prefix.now in
     let d = x.«data».now in
     let w : (32 * 2 ^ x.level) % 2 ^ 64 ≡ width x.level = shl_exact 6 x.level 64 (omega arith) (omega arith) in
-    let start : c.lesser-start.result ≡ min (length d) (x.n * width x.level) = c.lesser-start.ensures ∙ ap (λ (k : ℕ). min (length d) (x.n * k)) w in
+    let start : c.min-start.result ≡ min (length d) (x.n * width x.level) = c.min-start.ensures ∙ ap (λ (k : ℕ). min (length d) (x.n * k)) w in
     c.root_of.ensures
-    ∙ root_within p x.level (take (length d - c.lesser-start.result) (drop c.lesser-start.result d)) c.requires.0
-    ∙ ap (root p x.level) (pad_from 4096 (x.n * width x.level) (width x.level) d c.lesser-start.result c.requires.1 start)
+    ∙ root_within p x.level (take (length d - c.min-start.result) (drop c.min-start.result d)) c.requires.0
+    ∙ ap (root p x.level) (pad_from 4096 (x.n * width x.level) (width x.level) d c.min-start.result c.requires.1 start)

@@ -1,45 +1,51 @@
 -- Lengths first, then the slots, then the rank.
-use mathlib.Core.Path.{◌≡◌, sym, ap, ◌∙◌}
+use mathlib.Core.Path.{◌≡◌, refl, sym, ap, ◌∙◌}
+use mathlib.Core.Bool.{false, false≢true}
+use lib.ListN.{take}
 use borrow.Author.Tests.{eq-eqb, ne_eqb}
+use Rattle.std.specs.declared.cmp.Ordering.{Ordering}
+use Rattle.std.specs.declared.cmp.Ordering.TheVariants.{Less, Equal, Greater}
+use Rattle.std.specs.Ordering.{is_ne}
+use Rattle.octets.specs.Order.{byte_order}
 use Rattle.octets.proofs.Bytes.{bytes_known}
-use Rattle.octets.proofs.Ordered.{same_equal, less_not_same, more_not_same}
-use Rattle.octets.specs.declared.order.Order.TheVariants.{Same}
-use Rattle.records.specs.declared.rank.Choice.TheVariants.{Neither}
+use Rattle.octets.proofs.Ordered.{same_equal}
 use Rattle.records.specs.Choice.{choice, preferred}
 use Rattle.records.proofs.Ranks
 use Rattle.records.proofs.rank.choose.Goals as goal
 
-pub returns-then-first-ne145 : goal.returns-then-first-ne145
-unfolding choice
-returns-then-first-ne145 c = rw (ne_eqb _ _ c.if-first-ne145.true)
+not_ne : (o : Ordering) → false ≡ is_ne o → o ≡ Equal
+not_ne Less e = absurd (false≢true e)
+not_ne Equal e = refl
+not_ne Greater e = absurd (false≢true e)
 
-pub returns-then-second-ne145 : goal.returns-then-second-ne145
+pub returns-in_default : goal.returns-in_default
 unfolding choice
-returns-then-second-ne145 c = rw (eq-eqb _ _ c.if-first-ne145.false, ne_eqb _ _ c.if-second-ne145.true)
+returns-in_default c = rw (eq-eqb _ _ c.in_default.ensures.cases.long, ne_eqb _ _ c.in_default.ensures'.cases)
+
+pub returns-in_default-2 : goal.returns-in_default-2
+unfolding choice
+returns-in_default-2 c = rw (ne_eqb _ _ c.in_default.ensures.cases)
+
+pub returns-then-is_ne : goal.returns-then-is_ne
+returns-then-is_ne c =
+    let a = c.args.first.now in
+    let b = c.args.second.now in
+    let f = c.in-Some-Some.ensures.cases in
+    let g = c.in-Some-Some.ensures'.cases in
+    let slots : c.compare.result ≡ byte_order (take 40 a) (take 40 b) = c.compare.ensures ∙ rw (f.same, g.same) in
+    sym
+    (Ranks.choice_two_slots a b f.long g.long
+    (bytes_known a (λ n. (c.type_inv.first n).fits)) (bytes_known b (λ n. (c.type_inv.second n).fits))
+    (λ q. false≢true (sym (c.if-is_ne.ensures ∙ ap is_ne (slots ∙ q)))))
 
 pub rank-requires : goal.rank-requires
-rank-requires c =
-    (c.if-first-ne145.false, c.if-second-ne145.false, same_equal _ _ (sym c.compare.ensures ∙ c.in-Same.is))
+rank-requires c = same_equal _ _ (sym c.compare.ensures ∙ not_ne _ c.if-is_ne.ensures)
 
-pub returns-in-Same : goal.returns-in-Same
-returns-in-Same c =
-    let a = c.args in
-    c.prefer.ensures
-    ∙ ap preferred c.rank.ensures
-    ∙ sym (Ranks.choice_one_slot a.first.now a.second.now c.if-first-ne145.false c.if-second-ne145.false (same_equal _ _ (sym c.compare.ensures ∙ c.in-Same.is)))
-
-pub returns-in-Less : goal.returns-in-Less
-returns-in-Less c =
-    let a = c.args in
-    sym
-    (Ranks.choice_two_slots a.first.now a.second.now c.if-first-ne145.false c.if-second-ne145.false
-    (bytes_known a.first.now (λ n. (c.type_inv.first n).fits)) (bytes_known a.second.now (λ n. (c.type_inv.second n).fits))
-    (λ q. less_not_same (sym c.in-Less.is ∙ (c.compare.ensures ∙ q))))
-
-pub returns-in-More : goal.returns-in-More
-returns-in-More c =
-    let a = c.args in
-    sym
-    (Ranks.choice_two_slots a.first.now a.second.now c.if-first-ne145.false c.if-second-ne145.false
-    (bytes_known a.first.now (λ n. (c.type_inv.first n).fits)) (bytes_known a.second.now (λ n. (c.type_inv.second n).fits))
-    (λ q. more_not_same (sym c.in-More.is ∙ (c.compare.ensures ∙ q))))
+pub returns : goal.returns
+returns c =
+    let a = c.args.first.now in
+    let b = c.args.second.now in
+    let f = c.in-Some-Some.ensures.cases in
+    let g = c.in-Some-Some.ensures'.cases in
+    let one_slot : take 40 a ≡ take 40 b = ap (take 40) (sym f.same) ∙ same_equal _ _ (sym c.compare.ensures ∙ not_ne _ c.if-is_ne.ensures) ∙ ap (take 40) g.same in
+    c.prefer.ensures ∙ ap preferred (c.rank.ensures ∙ rw (f.same, g.same)) ∙ sym (Ranks.choice_one_slot a b f.long g.long one_slot)

@@ -1,25 +1,14 @@
 -- Inside the depth, the place is the slot's.
-use mathlib.Core.Path.{◌≡◌, ◌∙◌}
 use native.Mathlib.Omega.{arith}
-use Rattle.records.specs.Record.{slot, near_of}
-use Rattle.book.specs.Layout.{depth_in, overlay_in}
 use Rattle.reserve.proofs.Enters
 use Rattle.reserve.proofs.enter.enter.Goals as goal
 
 pub returns-then-near-depth : goal.returns-then-near-depth
 returns-then-near-depth c =
-    let near : c.near.result ≡ near_of (overlay_in c.args.book.now) (slot c.args.given.now) = c.near.ensures ∙ Enters.near_there c.args.book.now c.args.given.now c.requires in
-    let depth : c.depth.result ≡ depth_in c.args.book.now = c.depth.ensures in
-    Enters.lies_outside c.args.book.now c.args.given.now c.requires (omega (arith, near, depth, c.if-near-depth.true))
-
-pub place-at-requires : goal.place-at-requires
-place-at-requires c = (c.requires.formed, c.requires.fits.size)
+    let s = c.args.book.now in
+    Enters.lies_outside s c.args.given c.requires (omega (arith, Enters.near_there s c.args.given c.requires))
 
 pub file-requires : goal.file-requires
 file-requires c =
-    let near : c.near.result ≡ near_of (overlay_in c.args.book.now) (slot c.args.given.now) = c.near.ensures ∙ Enters.near_there c.args.book.now c.args.given.now c.requires in
-    let depth : c.depth.result ≡ depth_in c.args.book.now = c.depth.ensures in
-    record { awaits = c.requires; inside = omega (arith, near, depth, c.if-near-depth.false); place = c.place-at.ensures }
-
-pub returns : goal.returns
-returns c = c.file.ensures
+    let near = Enters.near_there c.args.book.now c.args.given c.requires in
+    record { awaits = c.requires; inside = omega (arith, near); place = c.place-at.ensures }

@@ -1,50 +1,33 @@
-use Prim.Native.Nat.{◌-◌, ◌+◌, ◌/◌}
-use mathlib.Core.Path.{◌≡◌, sym, ◌∙◌}
-use mathlib.Core.List.{[]}
-use lib.ListN.{length}
+-- The records stand in order, so that halving tells the place.
+use mathlib.Core.Path.{◌≡◌, sym, ap, ◌∙◌, subst}
+use mathlib.Core.Bool.{true, false}
+use mathlib.Core.List.{List}
 use native.Mathlib.Omega.{arith}
+use Rattle.std.proofs.Common.{rules, ℕ, take}
+use Rattle.std.proofs.lemmas.List.{length-take}
+use Rattle.std.proofs.lemmas.List.Sorted.{IsPartitionPoint-from_clause}
+use Rattle.std.specs.List.Sorted.{IsPartitionedBy, IsPartitionPoint}
 use Rattle.octets.proofs.Bytes.{bytes_known}
-use Rattle.settling.proofs.Places.{halving_start}
-use Rattle.records.specs.Record.{slot}
-use Rattle.book.specs.Shape.{shape_in}
 use Rattle.book.specs.Layout.{count_in, records_in}
-use Rattle.book.proofs.Cuts
 use Rattle.book.proofs.Fields
 use Rattle.reserve.proofs.Halves
 use Rattle.reserve.proofs.place.place.Goals as goal
 
-pub loop-lo-init : goal.loop-lo-init
-loop-lo-init c =
-    let a = c.args in
-    let s = a.book.now in
-    let same : c.count-hi.result ≡ count_in s = c.count-hi.ensures ∙ Fields.count_there s (omega (arith, c.requires.0.size)) in
-    let n : length (records_in s) ≡ c.count-hi.result = Cuts.counted s ∙ sym same in
-    (omega arith, omega (arith, same), rw n at (halving_start (shape_in s) [] (records_in s) (slot a.given.now)))
-
-pub is_below-requires : goal.is_below-requires
-is_below-requires c = (omega (arith, c.loop-lo.invariant.1, c.requires.0.count, c.requires.0.size), c.requires.1)
-
-pub loop-lo-preserved-then-is_below : goal.loop-lo-preserved-then-is_below
-loop-lo-preserved-then-is_below c =
-    let a = c.args in
-    let l = c.loop-lo in (
-      omega arith,
-      omega arith,
-      Halves.halves_up a.book.now a.given.now c.requires.0 c.requires.1 (bytes_known a.given.now (λ n. (c.type_inv.given n).fits)) l.lo l.hi (l.lo + (l.hi - l.lo) / 2) l.invariant.2
-          (omega arith) (omega arith) (sym c.is_below.ensures ∙ c.if-is_below.true),
-    )
-
-pub loop-lo-preserved : goal.loop-lo-preserved
-loop-lo-preserved c =
-    let a = c.args in
-    let l = c.loop-lo in (
-      omega arith,
-      omega arith,
-      Halves.halves_down a.book.now a.given.now c.requires.0 c.requires.1 (bytes_known a.given.now (λ n. (c.type_inv.given n).fits)) l.lo l.hi (l.lo + (l.hi - l.lo) / 2) l.invariant.2
-          (omega arith) (omega arith) (sym c.is_below.ensures ∙ c.if-is_below.false),
-    )
+pub slice_bounds-records-end : goal.slice_bounds-records-end
+slice_bounds-records-end c =
+    let s = c.args.book.now in
+    let same : c.count.result ≡ count_in s = c.count.ensures ∙ Fields.count_there s (omega (arith, c.requires.size)) in
+    simp length-take (omega (arith, c.as_chunks.ensures.front_len, Halves.room s c.requires c.count.result same))
 
 pub returns : goal.returns
 returns c =
-    let end : c.loop-lo.hi ≡ c.loop-lo.lo = omega arith in
-    rw end at c.loop-lo.invariant.2
+    let s = c.args.book.now in
+    let given = c.args.given.now in
+    let same : c.count.result ≡ count_in s = c.count.ensures ∙ Fields.count_there s (omega (arith, c.requires.size)) in
+    let there : take c.count.result c.as_chunks.result.0.now ≡ records_in s = ap (take c.count.result) c.as_chunks.ensures.front ∙ Halves.records_there s c.requires c.count.result same in
+    let parted = Halves.parted s given c.requires c.told-given (bytes_known given c.fits-given) in
+    Halves.placed s given c.requires c.told-given (bytes_known given c.fits-given) c.partition_point.result
+    (rw there at c.partition_point.ensures.bound)
+    (subst (λ (l : List (List ℕ)). IsPartitionPoint (λ r. Halves.is_below given r ≡ true) (λ r. Halves.is_below given r ≡ false) l c.partition_point.result) there
+    (IsPartitionPoint-from_clause (Halves.is_below given) _ _ c.partition_point.ensures.partitioned
+    (subst (IsPartitionedBy (Halves.is_below given)) (sym there) parted) (λ a r q k. search rules)))

@@ -1,13 +1,10 @@
--- The invariant: before place i the sample stands written.
-use mathlib.Core.Path.{◌≡◌}
-use Prim.Native.Nat.{◌≤◌, ◌-◌, ◌*◌}
-use lib.ListN.{length, take}
-use Rattle.octets.specs.Pieces.{pieces}
-use Rattle.sample.specs.Sample.{written}
+-- The invariant: before the place that is reached the sample stands written.
+use Rattle.std.specs.Slice.Iter.{chunks_exact_rest, chunks_exact_size}
+use Rattle.std.specs.Iterator.Adapters.{enumerate_source, enumerate_count}
+use Rattle.sample.proofs.Writing.{Laid}
 use Rattle.sample.proofs.commitment.write_out.Given as goal
 
-abbrev pub invariant-loop-i : goal.invariant-loop-i
-invariant-loop-i l = (l.i ≤ 16) × ((length l.sample ≡ 1024) × (take (64 * l.i) l.sample ≡ written (pieces 64 l.i l.best)))
-
-abbrev pub decreases-loop-i : goal.decreases-loop-i
-decreases-loop-i l = 16 - l.i
+abbrev pub invariant-loop-place : goal.invariant-loop-place
+invariant-loop-place l =
+    let chunks = enumerate_source l.place-iterator in
+    Laid l.best l.sample (chunks_exact_rest chunks) (chunks_exact_size chunks) (enumerate_count l.place-iterator)

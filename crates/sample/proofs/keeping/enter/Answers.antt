@@ -34,15 +34,15 @@ returns-in_default c =
 pub returns-then-place-gt15 : goal.returns-then-place-gt15
 returns-then-place-gt15 c =
     let a = c.args in
-    let belongs = rw c.in-At.is at c.place_of.ensures in
+    let belongs = rw c.in-Some.is at c.place_of.ensures in
     let same = entered_is a.pair.now a.held a.best.now c.if-best-ne1024.false c.if-pair-ne64.false (omega arith) a.held a.best.now
-    (enter_past a.best.now a.pair.now a.held c.in-At.place (omega arith) (omega arith) belongs.0 belongs.1) refl in
+    (enter_past a.best.now a.pair.now a.held c.in-Some.place (omega arith) (omega arith) belongs.0 belongs.1) refl in
     record { result = same.0; bytes = same.1 }
 
 pub returns : goal.returns
 returns c =
     let a = c.args in
-    let belongs = rw c.in-At.is at c.place_of.ensures in
-    let put = entered_placed a.pair.now a.held a.best.now c.if-best-ne1024.false c.if-pair-ne64.false (omega arith) c.in-At.place c.lesser-last.result
-    c.insert.new.s (omega arith) belongs.0 c.lesser-last.ensures belongs.1 c.insert.ensures in
+    let belongs = rw c.in-Some.is at c.place_of.ensures in
+    let put = entered_placed a.pair.now a.held a.best.now c.if-best-ne1024.false c.if-pair-ne64.false (omega arith) c.in-Some.place c.min-last.result
+    c.insert.new.s (omega arith) belongs.0 c.min-last.ensures belongs.1 c.insert.ensures in
     record { result = put.0; bytes = put.1 }

@@ -1,22 +1,16 @@
 -- `verdict::machines::agree` meets its contract.
-use mathlib.Core.Path.{sym, ◌∙◌}
+use Rattle.std.proofs.Common.{rules}
 use Rattle.verdict.specs.Agree.{agreed}
-use Rattle.verdict.proofs.Tests.{known_first}
+use Rattle.verdict.proofs.Told.{row_of_four}
 use Rattle.verdict.proofs.machines.agree.Goals as goal
+use Rattle.verdict.proofs.machines.agree.Goals.{then-one_hash, else-one_hash}
 
-pub returns-then-not-one_hash : goal.returns-then-not-one_hash
+pub returns-then-one_hash-2 : goal.returns-then-one_hash-2
 unfolding agreed
-returns-then-not-one_hash c = known_first _ (sym c.one_hash.ensures ∙ c.if-not-one_hash.true)
+returns-then-one_hash-2 g c =
+    elim c.if-one_hash.branch [ then-one_hash w ↦ search (rules, row_of_four) | else-one_hash w ↦ search rules ]
 
-pub returns-then-not-one_hash-2 : goal.returns-then-not-one_hash-2
+pub returns-else-one_hash-2 : goal.returns-else-one_hash-2
 unfolding agreed
-returns-then-not-one_hash-2 c =
-    known_first _ (sym c.one_hash-2.ensures ∙ c.if-not-one_hash-2.true)
-    ∙ known_first _ (sym c.one_hash.ensures ∙ c.if-not-one_hash.false)
-
-pub returns : goal.returns
-unfolding agreed
-returns c =
-    c.one_hash-3.ensures
-    ∙ known_first _ (sym c.one_hash-2.ensures ∙ c.if-not-one_hash-2.false)
-    ∙ known_first _ (sym c.one_hash.ensures ∙ c.if-not-one_hash.false)
+returns-else-one_hash-2 g c =
+    elim c.if-one_hash.branch [ then-one_hash w ↦ search (rules, row_of_four) | else-one_hash w ↦ search (rules, row_of_four) ]

@@ -1,23 +1,17 @@
 -- `verdict::machines::one_hash` meets its contract.
-use mathlib.Core.Path.{◌∙◌}
-use borrow.Author.Tests.{eq-eqb, ne_eqb}
+use Rattle.std.proofs.Common.{rules}
 use Rattle.verdict.specs.Agree.{one_hash}
-use Rattle.verdict.proofs.Tests.{known_first}
+use Rattle.verdict.proofs.Told.{compared}
 use Rattle.verdict.proofs.machines.one_hash.Goals as goal
 
-pub returns-then-a-ne0 : goal.returns-then-a-ne0
+pub returns-in-Ok-Ok : goal.returns-in-Ok-Ok
 unfolding one_hash
-returns-then-a-ne0 c = known_first _ (ne_eqb _ _ c.if-a-ne0.true)
+returns-in-Ok-Ok g c = search (rules, compared)
 
-pub returns-then-b-ne0 : goal.returns-then-b-ne0
+pub returns-in_default : goal.returns-in_default
 unfolding one_hash
-returns-then-b-ne0 c =
-    known_first _ (ne_eqb _ _ c.if-b-ne0.true)
-    ∙ known_first _ (eq-eqb _ _ c.if-a-ne0.false)
+returns-in_default g c = search rules
 
-pub returns : goal.returns
+pub returns-in_default-2 : goal.returns-in_default-2
 unfolding one_hash
-returns c =
-    c.same_digest.ensures
-    ∙ known_first _ (eq-eqb _ _ c.if-b-ne0.false)
-    ∙ known_first _ (eq-eqb _ _ c.if-a-ne0.false)
+returns-in_default-2 g c = search rules

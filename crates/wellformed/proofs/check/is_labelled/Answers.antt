@@ -1,30 +1,27 @@
 -- The mark decides, and where it is right the version.
 use mathlib.Core.Path.{◌≡◌, sym, ap, ◌∙◌}
-use mathlib.Core.Bool.{◌&&◌}
-use mathlib.Core.List.{List}
+use mathlib.Core.Bool.{true, false}
 use Prim.Native.Nat.{ℕ}
 use native.Mathlib.Omega.{arith}
 use lib.Dec.{eqb}
-use Rattle.octets.specs.Order.{byte_order, is_same}
-use Rattle.octets.specs.declared.order.Order.{Order}
-use Rattle.octets.specs.declared.order.Order.TheVariants.{Less, Same, More}
+use Rattle.std.specs.Ordering.{is_eq}
+use Rattle.octets.specs.Order.{byte_order}
 use Rattle.octets.proofs.Numbers.{big_at_fits}
-use Rattle.book.specs.Layout.{mark, mark_in, version_in}
+use Rattle.book.specs.Layout.{mark, mark_in}
 use Rattle.wellformed.specs.Check.{labelled}
+use Rattle.wellformed.proofs.Tests
 use Rattle.wellformed.proofs.check.is_labelled.Goals as goal
 
--- how the mark compares decides
-decided : (s : List ℕ) (r o : Order) → r ≡ byte_order (mark_in s) mark → r ≡ o → labelled s ≡ (is_same o && eqb (version_in s) 1)
+pub returns-then-starts_with : goal.returns-then-starts_with
 unfolding labelled
-decided s r o e is = ap (λ (p : Order). is_same p && eqb (version_in s) 1) (sym e ∙ is)
+returns-then-starts_with c =
+    let s = c.args.header.now in
+    let mark_so : true ≡ is_eq (byte_order (mark_in s) mark) = sym c.if-starts_with.true ∙ c.starts_with.ensures.value ∙ Tests.marked s (omega arith) in
+    rw (← mark_so) (ap (λ (n : ℕ). eqb n 1) (c.read.ensures ∙ big_at_fits 2 s 3 (omega arith)))
 
-pub returns-in-Less : goal.returns-in-Less
-returns-in-Less c = sym (decided c.args.book.now _ Less c.compare.ensures c.in-Less.is)
-
-pub returns-in-Same : goal.returns-in-Same
-returns-in-Same c =
-    let s = c.args.book.now in
-    ap (λ (n : ℕ). eqb n 1) (c.read16.ensures ∙ big_at_fits 2 s 3 (omega arith)) ∙ sym (decided s _ Same c.compare.ensures c.in-Same.is)
-
-pub returns-in-More : goal.returns-in-More
-returns-in-More c = sym (decided c.args.book.now _ More c.compare.ensures c.in-More.is)
+pub returns-else-starts_with : goal.returns-else-starts_with
+unfolding labelled
+returns-else-starts_with c =
+    let s = c.args.header.now in
+    let mark_so : false ≡ is_eq (byte_order (mark_in s) mark) = sym c.if-starts_with.false ∙ c.starts_with.ensures.value ∙ Tests.marked s (omega arith) in
+    rw (← mark_so) c.if-starts_with.false

@@ -1,20 +1,24 @@
--- Each answer is that of the tests that led to it.
-use borrow.Author.Tests.{le-leb, lt-leb, eq-eqb, ne_eqb}
+-- The bounds of the capacity decide, then the length, then the count.
+use borrow.Author.Rules.{rules}
+use borrow.Author.Tests.{le-leb, eq-eqb, eqb-true}
+use mathlib.Core.Path.{◌≡◌, sym, ◌∙◌}
+use mathlib.Core.Bool.{false≢true}
+use Prim.Native.Nat.{ℕ, ◌+◌, ◌*◌, ◌≤◌}
+use lib.Dec.{leb}
 use Rattle.wellformed.specs.Check.{sized}
 use Rattle.wellformed.proofs.check.is_sized.Goals as goal
+use Rattle.wellformed.proofs.check.is_sized.Goals.{then-contains, else-contains}
 
-pub returns-then-capacity-lt16 : goal.returns-then-capacity-lt16
+told : (size capacity count : ℕ) → 16 ≤ capacity → capacity ≤ 65536 → size ≡ 48 + 145 * capacity → leb count capacity ≡ sized size capacity count
 unfolding sized
-returns-then-capacity-lt16 c = rw (lt-leb _ _ c.if-capacity-lt16.true)
-
-pub returns-then-capacity-gt65536 : goal.returns-then-capacity-gt65536
-unfolding sized
-returns-then-capacity-gt65536 c = rw (le-leb _ _ c.if-capacity-lt16.false, lt-leb _ _ c.if-capacity-gt65536.true)
+told size capacity count h k e = rw (le-leb 16 capacity h, le-leb capacity 65536 k, eq-eqb size (48 + 145 * capacity) e)
 
 pub returns-then-size-capacity : goal.returns-then-size-capacity
-unfolding sized
-returns-then-size-capacity c = rw (le-leb _ _ c.if-capacity-lt16.false, le-leb _ _ c.if-capacity-gt65536.false, ne_eqb _ _ c.if-size-capacity.true)
-
-pub returns : goal.returns
-unfolding sized
-returns c = rw (le-leb _ _ c.if-capacity-lt16.false, le-leb _ _ c.if-capacity-gt65536.false, eq-eqb _ _ c.if-size-capacity.false)
+returns-then-size-capacity c =
+    elim c.if-contains.branch [
+      | then-contains w ↦
+          let h : 16 ≤ c.args.capacity = search rules in
+          let k : c.args.capacity ≤ 65536 = search rules in
+          told c.args.size c.args.capacity c.args.count h k (eqb-true _ _ (sym w.value-is ∙ c.if-size-capacity.true))
+      | else-contains w ↦ absurd (false≢true (sym w.if-contains.false ∙ sym w.value-is ∙ c.if-size-capacity.true))
+    ]

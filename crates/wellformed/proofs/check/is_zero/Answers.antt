@@ -1,20 +1,15 @@
-use Prim.Native.Nat.{◌-◌}
 use mathlib.Core.Bool.{Bool, true, false, ◌&&◌}
 use mathlib.Core.Path.{◌≡◌, refl, sym, ◌∙◌}
 use lib.Dec.{eqb}
 use Rattle.wellformed.proofs.Tests
 use Rattle.wellformed.proofs.check.is_zero.Goals as goal
 
-pub loop-i-init : goal.loop-i-init
-loop-i-init c = refl
-
-pub loop-i-preserved : goal.loop-i-preserved
-loop-i-preserved c =
-    c.loop-i.invariant ∙ Tests.byte_joined c.args.s.now c.loop-i.i c.loop-i.joined c.loop-i-test.true
+pub loop-byte-preserved : goal.loop-byte-preserved
+loop-byte-preserved c = c.loop-byte.invariant ∙ Tests.byte_joined c.args.s.now c.loop-byte.byte-index c.loop-byte.joined c.loop-byte-test.true
 
 pub returns : goal.returns
 returns c =
-    sym (c.loop-i.invariant ∙ rw (Tests.none_left c.args.s.now c.loop-i.i c.loop-i-test.false) (whole (eqb c.loop-i.joined 0)))
+    sym (c.loop-byte.invariant ∙ rw (Tests.none_left c.args.s.now c.loop-byte.byte-index c.loop-byte-test.false) (whole (eqb c.loop-byte.joined 0)))
   where
     whole : (b : Bool) → (b && true) ≡ b
     whole true = refl

@@ -1,30 +1,42 @@
 -- `keccak::Sponge::absorb` meets its contract: the three stretches, one after the other, are the part.
 use mathlib.Core.Path.{◌≡◌, refl, ap, ◌∙◌, sym, subst}
-use Prim.Native.Nat.{ℕ, ◌-◌, ◌%◌, ◌<◌}
+use mathlib.Core.List.{List, ◌++◌}
+use Prim.Native.Nat.{ℕ, ◌*◌, ◌-◌, ◌/◌, ◌%◌, ◌<◌}
 use native.Mathlib.Omega.{arith}
-use lib.ListN.{take, drop, length-take, length-drop}
+use lib.ListN.{length, take, drop}
+use Rattle.octets.specs.Bytes.{Bytes}
+use Rattle.octets.proofs.Bytes.{bytes_known, bytes_take, bytes_drop}
 use Rattle.keccak.specs.declared.sponge.Sponge.{Sponge}
-use Rattle.keccak.specs.Sponge.{absorbed}
-use Rattle.keccak.proofs.Step.{word_begins, three_parts, stretches, absorbed_in}
+use Rattle.keccak.specs.Sponge.{absorbed, joined_parts}
+use Rattle.keccak.proofs.Step.{word_begins, words_joined, three_parts, parted, absorbed_in}
 use Rattle.keccak.proofs.sponge.Sponge.absorb.Goals as goal
 
-pub words-whole-requires : goal.words-whole-requires
-words-whole-requires c =
+pub words-requires : goal.words-requires
+words-requires c =
+    let p : List ℕ = c.args.part.now in
     let k : ℕ = (8 - c.usable-s.result.place % 8) % 8 in
-    let z : k - 0 ≡ k = omega arith in
+    let rest : List ℕ = c.split_at.result.1.now in
+    let known : Bytes rest = subst Bytes (sym c.split_at.ensures.back) (bytes_drop k p (bytes_known p (λ i. (c.type_inv.part i).fits))) in
     let b =
-    word_begins c.usable-s.result c.bytes-begun.result c.args.part.now k c.usable-s.ensures.1 refl (omega arith)
-    (c.bytes-begun.ensures ∙ ap (λ (m : ℕ). absorbed c.usable-s.result (take m c.args.part.now)) z) in
-    (b.0, b.1, omega (arith, length-take (c.words_end-end.result - k) (drop k c.args.part.now), length-drop k c.args.part.now))
+    word_begins c.usable-s.result c.bytes-2.result p k c.usable-s.ensures.1 refl (omega arith)
+    (c.bytes-2.ensures ∙ ap (absorbed c.usable-s.result) c.split_at.ensures.front) in
+    (b.0, b.1, subst Bytes (sym (ap joined_parts c.as_chunks.ensures.front ∙ words_joined (length rest / 8) rest)) (bytes_take _ rest known))
 
-pub bytes-requires-2 : goal.bytes-requires-2
-bytes-requires-2 c =
-    subst (λ (t : Sponge). t.place < 136) (sym c.words-whole.ensures)
-    (absorbed_in c.bytes-begun.result _
-    (subst (λ (t : Sponge). t.place < 136) (sym c.bytes-begun.ensures) (absorbed_in c.usable-s.result _ c.usable-s.ensures.1.in_block)))
+pub bytes-requires-3 : goal.bytes-requires-3
+bytes-requires-3 c =
+    subst (λ (t : Sponge). t.place < 136) (sym c.words.ensures)
+    (absorbed_in c.bytes-2.result _
+    (subst (λ (t : Sponge). t.place < 136) (sym c.bytes-2.ensures) (absorbed_in c.usable-s.result _ c.usable-s.ensures.1.in_block)))
 
 pub returns : goal.returns
 returns c =
-    three_parts c.usable-s.result _ _ _ c.args.part.now _ _ _ c.bytes-begun.ensures c.words-whole.ensures c.bytes-2.ensures
-    (stretches c.args.part.now ((8 - c.usable-s.result.place % 8) % 8) c.words_end-end.result (omega arith))
-    ∙ ap (λ (t : Sponge). absorbed t c.args.part.now) c.usable-s.ensures.0
+    let p : List ℕ = c.args.part.now in
+    let k : ℕ = (8 - c.usable-s.result.place % 8) % 8 in
+    let rest : List ℕ = c.split_at.result.1.now in
+    let m : ℕ = length rest / 8 * 8 in
+    let all : (c.split_at.result.0.now ++ joined_parts c.as_chunks.result.0.now) ++ c.as_chunks.result.1.now ≡ p =
+    (λ i. (c.split_at.ensures.front i ++ (ap joined_parts c.as_chunks.ensures.front ∙ words_joined (length rest / 8) rest ∙ ap (take m) c.split_at.ensures.back) i)
+    ++ (c.as_chunks.ensures.back ∙ ap (drop m) c.split_at.ensures.back) i)
+    ∙ parted p k m in
+    three_parts c.usable-s.result _ _ _ p _ _ _ c.bytes-2.ensures c.words.ensures c.bytes-3.ensures all
+    ∙ ap (λ (t : Sponge). absorbed t p) c.usable-s.ensures.0

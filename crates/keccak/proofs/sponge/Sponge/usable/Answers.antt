@@ -1,12 +1,14 @@
 -- `keccak::Sponge::usable` meets its contract.
-use mathlib.Core.Path.{sym}
+use mathlib.Core.Path.{sym, ◌∙◌, subst}
 use Rattle.std.proofs.Common.{rules}
+use Rattle.keccak.specs.Sponge.{Sound}
 use Rattle.keccak.proofs.Step.{usable_in, usable_out, fresh_sound}
 use Rattle.keccak.proofs.sponge.Sponge.usable.Goals as goal
 
-pub returns-then-place-lt-RATE : goal.returns-then-place-lt-RATE
-returns-then-place-lt-RATE c =
-    (sym (usable_in c.args.self c.if-place-lt-RATE.true), record { lanes25 = search rules; in_block = c.if-place-lt-RATE.true })
+pub returns-then-self-lt-RATE : goal.returns-then-self-lt-RATE
+returns-then-self-lt-RATE c =
+    (sym (usable_in c.args.self c.if-self-lt-RATE.true), record { lanes25 = search rules; in_block = c.if-self-lt-RATE.true })
 
-pub returns-else-place-lt-RATE : goal.returns-else-place-lt-RATE
-returns-else-place-lt-RATE c = (sym (usable_out c.args.self c.if-place-lt-RATE.false), fresh_sound)
+pub returns-else-self-lt-RATE : goal.returns-else-self-lt-RATE
+returns-else-self-lt-RATE c =
+    (c.new.ensures ∙ sym (usable_out c.args.self c.if-self-lt-RATE.false), subst Sound (sym c.new.ensures) fresh_sound)

@@ -1,44 +1,48 @@
-use mathlib.Core.Path.{refl, ap, ap₂, ◌∙◌}
-use Prim.Native.Nat.{◌+◌, ◌≤◌}
+use mathlib.Core.Path.{◌≡◌, refl, sym, ap, ap₂, ◌∙◌}
+use mathlib.Core.List.{List, []}
+use Prim.Native.Nat.{ℕ}
 use native.Mathlib.Omega.{arith}
-use lib.ListN.{length, length-set}
-use Rattle.octets.proofs.Bytes.{bytes_known}
+use lib.ListN.{length, get_or, take, length-set}
+use Rattle.octets.specs.Number.{little}
+use Rattle.octets.proofs.Words.{little_std}
 use Rattle.permutation.proofs.Rounds.{permute_length}
-use Rattle.keccak.specs.Sponge.{sponge, absorbed}
-use Rattle.keccak.proofs.Step.{word_full, word_next}
+use Rattle.keccak.specs.Sponge.{sponge, absorbed, joined_parts}
+use Rattle.keccak.proofs.Step.{word_full, word_next, word_bytes, joined_more}
 use Rattle.keccak.proofs.sponge.Sponge.words.Goals as goal
 use Rattle.keccak.proofs.sponge.Sponge.words.Goals.{then-place-eq-RATE, else-place-eq-RATE}
 
-pub loop-i-init : goal.loop-i-init
-unfolding absorbed
-loop-i-init c = (omega arith, omega arith, c.requires.0.in_block, omega arith, c.requires.0.lanes25, refl)
+pub loop-word-init : goal.loop-word-init
+unfolding absorbed joined_parts
+loop-word-init c = (c.requires.0.in_block, c.requires.1, c.requires.0.lanes25, refl)
 
-pub loop-i-preserved : goal.loop-i-preserved
-loop-i-preserved c =
+pub loop-word-preserved : goal.loop-word-preserved
+loop-word-preserved c =
     let g = c.args in
-    let p = g.part.now in
-    let known = bytes_known p (λ i. (c.type_inv.part i).fits) in
-    let h : c.loop-i.i + 8 ≤ length p = omega arith in
+    let l = c.loop-word in
+    let i = l.word-index in
+    let ws = g.words.now in
+    let bs : List ℕ = get_or ws i [] in
+    let long : length bs ≡ 8 = c.told-words i c.loop-word-test.true in
+    let known = word_bytes ws i c.requires.2 in
+    let read : c.from_le_bytes.result ≡ little bs = c.from_le_bytes.ensures ∙ little_std 7 bs long in
+    let more = ap (absorbed g.self) (sym (joined_more ws i c.loop-word-test.true)) in
     elim c.if-place-eq-RATE.branch [
       | then-place-eq-RATE w ↦ (
-        h,
-        omega arith,
         omega arith,
         omega arith,
         ap length (w.lanes-is ∙ w.permute-lanes.ensures) ∙ permute_length _,
         ap₂ sponge w.lanes-is w.place-is
-            ∙ word_full c.loop-i.lanes c.loop-i.place c.read_little64.result g.self p c.loop-i.i c.loop-i.invariant.4 c.loop-i.invariant.2
-            c.loop-i.invariant.3 h known c.read_little64.ensures c.loop-i.invariant.5 w.permute-lanes.result w.if-place-eq-RATE.true
-            w.permute-lanes.ensures,
+            ∙ word_full l.lanes l.place _ g.self (joined_parts (take i ws)) bs l.invariant.2 l.invariant.0 l.invariant.1 long known read l.invariant.3
+            w.permute-lanes.result w.if-place-eq-RATE.true w.permute-lanes.ensures
+            ∙ more,
       )
       | else-place-eq-RATE w ↦ (
-        h,
-        omega arith,
         omega (arith, w.if-place-eq-RATE.false),
         omega arith,
-        ap length w.lanes-is ∙ length-set c.loop-i.lanes _ _ ∙ c.loop-i.invariant.4,
+        ap length w.lanes-is ∙ length-set l.lanes _ _ ∙ l.invariant.2,
         ap₂ sponge w.lanes-is w.place-is
-            ∙ word_next c.loop-i.lanes c.loop-i.place c.read_little64.result g.self p c.loop-i.i c.loop-i.invariant.4 c.loop-i.invariant.2
-            c.loop-i.invariant.3 h known c.read_little64.ensures c.loop-i.invariant.5 w.if-place-eq-RATE.false,
+            ∙ word_next l.lanes l.place _ g.self (joined_parts (take i ws)) bs l.invariant.2 l.invariant.0 l.invariant.1 long known read l.invariant.3
+            w.if-place-eq-RATE.false
+            ∙ more,
       )
     ]

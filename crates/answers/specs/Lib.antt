@@ -1,0 +1,3 @@
+-- The numbers of answers.
+pub mod Number
+pub mod Determined

@@ -1,0 +1,7 @@
+-- Of the bytes that are there, or of zeros, std makes the number.
+use mathlib.Core.Path.{◌∙◌}
+use Rattle.octets.proofs.Words
+use Rattle.octets.proofs.number.U32Number.read.Goals as goal
+
+pub returns : goal.returns
+returns c = c.from_be_bytes.ensures ∙ Words.big_read 3 c.args.s.now c.args.at c.unwrap_or.result c.part.result c.unwrap_or.ensures c.part.ensures

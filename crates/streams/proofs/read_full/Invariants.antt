@@ -1,9 +1,0 @@
--- What is read lies within the space, which keeps its length.
-use Rattle.std.proofs.Common.{length, ◌-◌, ◌≤◌}
-use Rattle.streams.proofs.read_full.Given as goal
-
-abbrev pub invariant-loop-done : goal.invariant-loop-done
-invariant-loop-done g l = l.done ≤ length l.space
-
-abbrev pub decreases-loop-done : goal.decreases-loop-done
-decreases-loop-done g l = length l.initial.space - l.done
