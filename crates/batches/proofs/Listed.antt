@@ -1,16 +1,16 @@
 -- The test of a list agrees with the sentence.
-use mathlib.Core.Path.{◌≡◌, refl, sym, ap, ◌∙◌}
+use mathlib.Core.Path.{◌≡◌, refl, ap}
 use mathlib.Core.Bool.{Bool, true, false, ◌&&◌, false≢true}
 use mathlib.Core.List.{List, [], ◌∷◌}
-use Prim.Native.Nat.{ℕ, zero, suc, ◌+◌, ◌%◌, ◌<◌}
-use native.Mathlib.Nat.{suc-add}
+use Prim.Native.Nat.{ℕ, zero, suc, ◌+◌, ◌%◌, ◌≤◌, ◌<◌}
+use native.Mathlib.Numerals.{add-one}
 use native.Mathlib.Omega.{arith}
 use lib.Dec.{eqb, leb}
-use lib.ListN.{length, get_or}
+use lib.ListN.{length, get_or, drop, drop_of_length-le}
+use lib.Seq.{drop-cons}
 use borrow.Author.Tests.{le-leb, leb-true, eq-eqb, ne_eqb, eqb-true}
 use Rattle.std.specs.declared.cmp.Ordering.TheVariants.{Less}
 use Rattle.std.specs.Ordering.{is_lt}
-use Rattle.std.specs.List.{list_all, IsAllAdjacentAnswer}
 use Rattle.octets.specs.Order.{byte_order}
 use Rattle.octets.proofs.Ordered.{is_less_lem, less_trans}
 use Rattle.batches.specs.Batch.{record_length, id_of, depth_of, Fit, WellListed, records, fit, precedes, below, ordered, well_listed}
@@ -82,60 +82,34 @@ ordered_complete (batch ∷ rest) s =
     let others : Sound rest = record { all_fit = λ i h. s.all_fit (suc i) (omega arith); ascending = λ i j h k. s.ascending (suc i) (suc j) (omega arith) (omega arith) } in
     rw (fit_complete batch (s.all_fit 0 (omega arith)), below_first batch rest s, ordered_complete rest others)
 
--- ---- what the check's two walks come to
+-- ---- what a turn of the walk over the records finds
 
-ascending : List (List ℕ) → Bool
-ascending [] = true
-ascending (batch ∷ rest) = below batch rest && ascending rest
+module _ (l : List (List ℕ)) (i : ℕ) where
+  -- the record at i, its neighbour, and the others
+  pub turn : i < length l → ordered (drop i l) ≡ (fit (get_or l i []) && (below (get_or l i []) (drop (i + 1) l) && ordered (drop (i + 1) l)))
+  unfolding ordered
+  turn h = rw (add-one, drop-cons l i [] h) refl
 
-all_and : (batches : List (List ℕ)) → (list_all fit batches && ascending batches) ≡ ordered batches
-unfolding ordered ascending
-all_and [] = refl
-all_and (batch ∷ rest) = rw (← all_and rest) (go (fit batch) (list_all fit rest) (below batch rest) (ascending rest))
-  where
-    go : (f g b a : Bool) → ((f && g) && (b && a)) ≡ (f && (b && (g && a)))
-    go false g b a = refl
-    go true true b a = refl
-    go true false true a = refl
-    go true false false a = refl
+  -- nothing is left
+  pub none_left : length l ≤ i → ordered (drop i l) ≡ true
+  unfolding ordered
+  none_left h = rw (drop_of_length-le l h) refl
 
-walked : (batches : List (List ℕ)) (r : Bool) → IsAllAdjacentAnswer (λ x y b. b ≡ precedes x y) batches r → r ≡ ascending batches
-unfolding ascending below
-walked [] true h = refl
-walked [] false h = go h.0 h.1
-  where
-    go : (k : ℕ) → k + 1 < 0 → false ≡ true
-    go k i = absurd (omega arith)
-walked (batch ∷ []) true h = refl
-walked (batch ∷ []) false h = go h.0 h.1
-  where
-    go : (k : ℕ) → k + 1 < 1 → false ≡ true
-    go k i = absurd (omega arith)
-walked (batch ∷ next ∷ rest) true h =
-    let here : true ≡ precedes batch next = h 0 [] (omega arith) in
-    let after : true ≡ ascending (next ∷ rest) = walked (next ∷ rest) true (λ k d i. rw suc-add at (h (suc k) d (omega arith))) in
-    rw (← here) after
-walked (batch ∷ next ∷ rest) false h = go (precedes batch next) refl h.0 h.1 h.2 (walked (next ∷ rest) false)
-  where
-    go : (b : Bool) → precedes batch next ≡ b → (k : ℕ) → k + 1 < length (batch ∷ next ∷ rest)
-        → ((d : List ℕ) → false ≡ precedes (get_or (batch ∷ next ∷ rest) k d) (get_or (batch ∷ next ∷ rest) (k + 1) d))
-        → (IsAllAdjacentAnswer (λ x y b. b ≡ precedes x y) (next ∷ rest) false → false ≡ ascending (next ∷ rest))
-        → false ≡ (precedes batch next && ascending (next ∷ rest))
-    go b e zero i f r = rw (← f [])
-    go false e (suc k) i f r = rw e
-    go true e (suc k) i f r = rw e (r (k, omega arith, λ d. rw suc-add at (f d)))
+  module _ (r : List ℕ) where
+    -- the last record has no neighbour
+    pub last_rises : length l ≤ i + 1 → below r (drop (i + 1) l) ≡ true
+    unfolding below
+    last_rises h = rw (drop_of_length-le l h) refl
 
-pub two_walks : (batches : List (List ℕ)) (r : Bool) → IsAllAdjacentAnswer (λ x y b. b ≡ precedes x y) batches r → (list_all fit batches && r) ≡ ordered batches
-two_walks batches r h = rw (walked batches r h) (all_and batches)
+    -- and any other the next one
+    pub next_rises : i + 1 < length l → below r (drop (i + 1) l) ≡ precedes r (get_or l (i + 1) [])
+    unfolding below
+    next_rises h = rw (drop-cons l (i + 1) [] h) refl
 
--- one record that is not fit is enough
-pub one_unfit : (batches : List (List ℕ)) → list_all fit batches ≡ false → ordered batches ≡ false
-one_unfit batches h = sym (all_and batches) ∙ rw h
-
--- whole records, and both walks
-pub whole_and_walked : (list : List ℕ) (r : Bool) → length list % record_length ≡ 0 → r ≡ ordered (records list) → r ≡ well_listed list
+-- whole records in order
+pub whole_in_order : (list : List ℕ) (r : Bool) → length list % record_length ≡ 0 → r ≡ ordered (records list) → r ≡ well_listed list
 unfolding well_listed
-whole_and_walked list r h e = rw (eq-eqb _ _ h) e
+whole_in_order list r h e = rw (eq-eqb _ _ h) e
 
 pub not_whole : (list : List ℕ) → (length list % record_length ≡ 0 → ⊥) → false ≡ well_listed list
 unfolding well_listed

@@ -1,7 +1,6 @@
 // The batch list: records one after another, strictly ascending by id.
 ghost use Rattle.std.specs.Prelude.{◌≡◌};
-ghost use Rattle.std.specs.List.{list_all, IsAllAdjacentAnswer};
-ghost use Rattle.batches.specs.Batch.{fit, precedes, well_listed};
+ghost use Rattle.batches.specs.Batch.{fit, precedes, ordered, well_listed};
 
 use octets::order::compare;
 
@@ -17,14 +16,21 @@ pub fn check_batches(batches: &[u8]) -> bool
     ensures { result ≡ well_listed batches.now }
 {
     let (records, rest) = batches.as_chunks::<RECORD>();
-    rest.is_empty() && all_fit(records) && ascending(records)
+    rest.is_empty() && in_order(records)
 }
 
-// Whether every record is fit.
-fn all_fit(records: &[[u8; RECORD]]) -> bool
-    ensures { result ≡ list_all fit records.now }
+// Whether each record is fit and its id below the next one's: both in one walk, which the first that is wrong ends.
+fn in_order(records: &[[u8; RECORD]]) -> bool
+    ensures { result ≡ ordered records.now }
 {
-    records.iter().all(is_fit)
+    for (i, record) in records.iter().enumerate() {
+        let rises = records.get(i + 1).is_none_or(|next| is_below(record, next));
+        let stands = is_fit(record) & rises;
+        if !stands {
+            return false;
+        }
+    }
+    true
 }
 
 // Whether a record has a depth that a batch may have.
@@ -33,13 +39,6 @@ fn is_fit(record: &[u8; RECORD]) -> bool
     ensures { result ≡ fit record.now }
 {
     matches!(record[DEPTH], 17..=40)
-}
-
-// Whether every id is below the next one.
-fn ascending(records: &[[u8; RECORD]]) -> bool
-    ensures { IsAllAdjacentAnswer (λ batch next told. told ≡ precedes batch next) records.now result }
-{
-    records.is_sorted_by(is_below)
 }
 
 // Whether a record's id is below the next one's.

@@ -1,3 +1,4 @@
 -- Laws that belong to no one function.
 pub mod Edits
 pub mod Pieces
+pub mod Turns

@@ -21,12 +21,15 @@ pub fn clear(s: &mut [u8], at: usize, n: usize)
     }
 }
 
-// The `n` bytes from `from`, moved down to `to`.
+// The `n` bytes from `from`, moved down to `to`. At one place there is nothing to move.
+// This and the next go by place: std's copy within a slice would have the archive ask C for `memmove`, beside `memcpy` and `memset`.
 pub fn lower(s: &mut [u8], from: usize, to: usize, n: usize)
     ensures { s.new ≡ lowered s.old from to n }
 {
-    if to <= from && fits(s.len(), from, n) {
-        s.copy_within(from..from + n, to);
+    if to < from && fits(s.len(), from, n) {
+        for i in 0..n {
+            s[to + i] = s[from + i];
+        }
     }
 }
 
@@ -35,7 +38,9 @@ pub fn raise(s: &mut [u8], at: usize, end: usize, n: usize)
     ensures { s.new ≡ raised s.old at end n }
 {
     if at <= end && fits(s.len(), end, n) {
-        s.copy_within(at..end, at + n);
+        for i in (at..end).rev() {
+            s[i + n] = s[i];
+        }
     }
 }
 

@@ -1,20 +1,32 @@
-use mathlib.Core.Path.{refl, sym, ◌∙◌}
-use Prim.Native.Nat.{◌+◌, ◌-◌, ◌≤◌}
+use mathlib.Core.Path.{◌≡◌, refl, sym, ap, ◌∙◌}
 use native.Mathlib.Omega.{arith}
-use lib.ListN.{length}
+use lib.ListN.{length-set}
 use borrow.Author.Tests.{le-leb, leb-true}
 use Rattle.moving.specs.Moving.{raised}
 use Rattle.moving.proofs.Edits
+use Rattle.moving.proofs.Turns
 use Rattle.moving.proofs.edit.raise.Goals as goal
 use Rattle.moving.proofs.edit.raise.Goals.{else-at-end-via-then-at-end+else-fits, else-at-end-via-else-at-end}
 
-pub returns-then-fits : goal.returns-then-fits
-returns-then-fits c =
+pub loop-i-init : goal.loop-i-init
+loop-i-init c =
     let a = c.args in
-    let room : a.end + a.n ≤ length a.s.now = leb-true _ _ (sym c.fits.ensures ∙ c.if-fits.true) in
-    c.copy_within.ensures.after
-    ∙ Edits.over_copied a.s.now a.at (a.at + a.n) (a.end - a.at) _ refl (omega (arith, c.if-at-end.true))
-    ∙ sym (Edits.raised_fits a.s.now a.at a.end a.n c.if-at-end.true room)
+    (omega arith, omega arith, Turns.up_none a.s.now a.end a.n, refl)
+
+pub loop-i-preserved : goal.loop-i-preserved
+loop-i-preserved c =
+    let a = c.args in
+    let room = leb-true _ _ (sym c.fits.ensures ∙ c.if-fits.true) in
+    let turn = Turns.raise_more c.loop-i.s a.s.now a.end a.n c.loop-i.i c.loop-i.invariant.2 (omega arith) (omega arith) (omega (arith, room)) in
+    (omega arith, omega arith, turn, simp length-set c.loop-i.invariant.3)
+
+pub returns-after-loop-i : goal.returns-after-loop-i
+returns-after-loop-i c =
+    let a = c.args in
+    let room = leb-true _ _ (sym c.fits.ensures ∙ c.if-fits.true) in
+    let last : c.loop-i.i ≡ a.at = omega arith in
+    c.loop-i.invariant.2 ∙ ap (Turns.up a.s.now a.end a.n) last ∙ Turns.raise_all a.s.now a.end a.n a.at (omega arith) (omega (arith, room))
+    ∙ sym (Edits.raised_fits a.s.now a.at a.end a.n (omega arith) (omega (arith, room)))
 
 pub returns-else-at-end : goal.returns-else-at-end
 unfolding raised
