@@ -33,8 +33,10 @@ class Item:
         self.hands_back = '->' in signature
         self.streams = re.search(r'\bimpl \(?(?:Read|Write|Print|Eprint)\b', signature) is not None
         self.name = '::'.join((crate,) + path)
-        # as `rattle` names it
-        self.called = '::'.join((crate, *path[:-2], path[-2][:1].upper() + path[-2][1:] + self.trait, path[-1])) if self.trait and not self.declares else self.name
+        # as `rattle` names it, and the folders in which its proof can stand, from its crate
+        self.called = '::'.join((crate, *path[:-2], block.called, path[-1])) if self.trait and not self.declares else self.name
+        _, *above, last = self.called.split('::')
+        self.folders = ['/'.join(('proofs', *above, start + last)) for start in ('', '+')]
 
     def answers(self, mention):
         """A mention leaves modules out at will, but never the type of a method."""
@@ -45,16 +47,24 @@ class Item:
 class Block:
     """A trait, an `impl` or a module with its items, by the name that these have it under; or any other braces."""
 
-    def __init__(self, kind='', public=False, head='', inside=''):
+    def __init__(self, kind='', public=False, taken='', head='', inside=''):
         self.kind, self.public = kind, public
-        first, _, of = head.partition(' for ')
-        self.name = re.match(r'\w*', (of or first).strip()).group() or {'(': 'unit', '[': 'array'}.get(of.strip()[:1], '')
-        self.trait = re.match(r'\w*', first.strip()).group() if kind == 'trait' or kind == 'impl' and of else ''
+        first, _, of = (part.strip() for part in re.split(r'\bwhere\b', head)[0].partition(' for '))
+        self.name = last_name(of or first) or {'(': 'unit', '[': 'array'}.get(of[:1], '')
+        self.trait = last_name(first) if kind == 'trait' or kind == 'impl' and of else ''
+        # (the type, then the trait, and of each what it is applied to, but for what the `impl` takes)
+        words = re.findall(r"(?<!')\b\w+\b(?!\s*::)", f'{"" if last_name(of) else self.name} {of} {first}')
+        self.called = ''.join(word[:1].upper() + word[1:] for word in words if word not in re.findall(r'(?:^|,)\s*(?:const\s+)?(\w+)', taken))
         self.ghosts = {name: body or '' for name, body in re.findall(r'\bghost\s+(\w+)\s*(?::|=\s*\{([^{}]*)\})', inside)} if self.trait else {}
 
 
+def last_name(text):
+    """The name that a text begins with, without the modules before it."""
+    return re.match(r'(?:\w+::)*(\w*)', text)[1]
+
+
 TOKEN = re.compile(
-    r'(?P<shown>\bpub\s+)?\b(?P<block>impl|mod|trait)\b(?:\s*<(?:[^<>{}]|<[^<>{}]*>)*>)?\s+(?P<head>(?:[^{};\[\]]|\[[^\]]*\])*)\{'
+    r'(?P<shown>\bpub\s+)?\b(?P<block>impl|mod|trait)\b(?:\s*<(?P<taken>(?:[^<>{}]|<[^<>{}]*>)*)>)?\s+(?P<head>(?:[^{};\[\]]|\[[^\]]*\])*)\{'
     r'|(?P<pub>\bpub\s+)?(?P<extern>\bextern\s+)?\bfn\s+(?P<fn>\w+)'
     r'|\b(?P<kind>struct|enum|const|type|mod)\s+(?P<item>\w+)'
     r'|[{}]')
@@ -104,7 +114,7 @@ def items(crate, file, text):
         path = modules + tuple(block.name for block in owners if block.name)
         line = line_at(text, m.start())
         if m['block']:
-            owners.append(Block(m['block'], bool(m['shown']), m['head'], text[at:closing(text, at - 1)]))
+            owners.append(Block(m['block'], bool(m['shown']), m['taken'] or '', m['head'], text[at:closing(text, at - 1)]))
         elif m['fn']:
             signature, contract, at = contract_after(text, at)
             block = next((block for block in reversed(owners) if block.kind in ('impl', 'trait')), None)
