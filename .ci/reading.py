@@ -66,7 +66,7 @@ def last_name(text):
 TOKEN = re.compile(
     r'(?P<shown>\bpub\s+)?\b(?P<block>impl|mod|trait)\b(?:\s*<(?P<taken>(?:[^<>{}]|<[^<>{}]*>)*)>)?\s+(?P<head>(?:[^{};\[\]]|\[[^\]]*\])*)\{'
     r'|(?P<pub>\bpub\s+)?(?P<extern>\bextern\s+)?\bfn\s+(?P<fn>\w+)'
-    r'|\b(?P<kind>struct|enum|const|type|mod)\s+(?P<item>\w+)'
+    r'|(?P<open>\bpub\s+)?\b(?P<kind>struct|enum|const|type|mod)\s+(?P<item>\w+)'
     r'|[{}]')
 
 
@@ -122,7 +122,7 @@ def items(crate, file, text):
             end = closing(text, at) if text[at] == '{' else at
             found.append(Item(crate, file, line, 'fn', path + (m['fn'],), public, exported, bool(block), signature, contract, text[at:end], line_at(text, end), block))
         elif m['item']:
-            found.append(Item(crate, file, line, m['kind'], path + (m['item'],)))
+            found.append(Item(crate, file, line, m['kind'], path + (m['item'],), bool(m['open'])))
         elif m.group() == '{':
             owners.append(Block())
         elif owners:
