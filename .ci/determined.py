@@ -120,6 +120,12 @@ def differs(function, uses, text, name):
     return ''
 
 
+def fixes(fact, name):
+    """Whether an equation of a fact says outright what a name stands for."""
+    sides = [e for e in equations(nested(fact), {name: '$1 result'}) if len(e) == 2]
+    return any('$1 result' in e and set() in map(given, e) for e in sides)
+
+
 def silent(function):
     """What no equation of a contract speaks of, and so is left open: the result, or what a buffer holds afterwards."""
     spoken = given(tuple(promised(function, {}, 1)))

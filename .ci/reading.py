@@ -55,7 +55,7 @@ class Block:
         # (the type, then the trait, and of each what it is applied to, but for what the `impl` takes)
         words = re.findall(r"(?<!')\b\w+\b(?!\s*::)", f'{"" if last_name(of) else self.name} {of} {first}')
         self.called = ''.join(word[:1].upper() + word[1:] for word in words if word not in re.findall(r'(?:^|,)\s*(?:const\s+)?(\w+)', taken))
-        self.ghosts = {name: body or '' for name, body in re.findall(r'\bghost\s+(\w+)\s*(?::|=\s*\{([^{}]*)\})', inside)} if self.trait else {}
+        self.ghosts = {name: body or '' for name, body in re.findall(r'\bghost\s+(\w+)\s*(?::|=\s*\{((?:[^{}]|\{[^{}]*\})*)\})', inside)} if self.trait else {}
 
 
 def last_name(text):
