@@ -67,11 +67,12 @@ def seen(t, run):
     return (head, *rest) if rest else head
 
 
-def promised(function, uses, run):
-    """The equations of a contract, in one of the two runs. Another fact in it is passed over: a theorem without it says more."""
+def promised(function, uses, own, run):
+    """The equations of a contract, in one of the two runs, by what the file that states it uses; an `impl` says its ghost members by what its
+    own file uses. Another fact in it is passed over: a theorem without it says more."""
     found = []
-    ghosts = {name: term(nested(body), uses) if body.strip() else f'$ghost {name}' for name, body in function.ghosts.items()}
-    known = uses | ghosts | {p: f'${p}' for p in function.parameters} | {'result': '$ result'}
+    ghosts = {name: term(nested(body), own) if body.strip() else f'$ghost {name}' for name, body in function.ghosts.items()}
+    known = uses | ghosts | {p: f'${p}' for p in function.stated.parameters} | {'result': '$ result'}
     for word, _, text in function.contract:
         if word == 'ensures':
             found += [seen(e, run) for e in equations(nested(text[1:-1]), known) if len(e) == 2]
@@ -99,7 +100,7 @@ def shown(t):
     return re.sub(r'^\$|^[^.\s]\S*\.', '', t) if isinstance(t, str) else f'({" ".join(map(shown, t))})'
 
 
-def differs(function, uses, text, name):
+def differs(function, uses, own, text, name):
     """What keeps a theorem from saying: of any two runs that the contract allows, all that is handed back and left is equal."""
     outside, type_ = theorem(text, name)
     first, *steps = apart(nested(type_), '→')
@@ -107,7 +108,7 @@ def differs(function, uses, text, name):
     known = {word: path for word, path in used(text).items() if word not in variables}
     known |= {word: term(nested(body), known) for word, body in re.findall(r'^ *abbrev (\S+) :.*\n *\1 = (.*)$', text, re.M)}
     *hypotheses, conclusion = [equations(step, known) for step in steps] or [[]]
-    hypotheses, contract = sum(hypotheses, []), promised(function, uses, 1) + promised(function, uses, 2)
+    hypotheses, contract = sum(hypotheses, []), promised(function, uses, own, 1) + promised(function, uses, own, 2)
     if len(hypotheses) != len(contract):
         return f'it supposes {len(hypotheses)} equations, and the contract allows two runs by {len(contract)}'
     meant = dict.fromkeys(variables)
@@ -128,7 +129,7 @@ def fixes(fact, name):
 
 def silent(function):
     """What no equation of a contract speaks of, and so is left open: the result, or what a buffer holds afterwards."""
-    spoken = given(tuple(promised(function, {}, 1)))
+    spoken = given(tuple(promised(function, {}, {}, 1)))
     owed = {'result': 'its result'} if function.hands_back else {}
     owed |= {f'{p} after now': f'what `{p}` holds afterwards' for p in function.written}
     return [what for start, what in owed.items() if not any(word.startswith(start) for word in spoken)]

@@ -24,8 +24,10 @@ class Item:
 
     def __init__(self, crate, file, line, kind, path, public=False, exported=False, method=False, signature='', contract=(), body='', end=0, block=None):
         self.crate, self.file, self.line, self.kind, self.path = crate, file, line, kind, path
-        # Of a method: the trait that declares it or that its `impl` is of, and what is said there of the trait's ghost members.
+        # Of a method: the trait that declares it or that its `impl` is of, and what is said there of the trait's ghost members. What states its
+        # contract is itself, or that trait's own.
         self.trait, self.ghosts, self.declares = (block.trait, block.ghosts, block.kind == 'trait') if block else ('', {}, False)
+        self.stated = self
         self.public, self.exported, self.method, self.contract = public, exported, method, contract
         self.body, self.end = body, end
         self.parameters = re.findall(r'\bself\b|\b\w+(?=\s*:(?!:))', signature)
@@ -241,7 +243,8 @@ class Repository:
         told = {(i.trait, i.path[-1]): i for i in self.functions if i.declares}
         self.inherited = [i for i in self.items if i.kind == 'fn' and i.trait and not i.declares and (i.trait, i.path[-1]) in told]
         for i in self.inherited:
-            i.contract = told[i.trait, i.path[-1]].contract
+            i.stated = told[i.trait, i.path[-1]]
+            i.contract = i.stated.contract
 
     def fault(self, file, line, what):
         self.faults.append((file, line, what))
