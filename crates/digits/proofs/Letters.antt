@@ -4,13 +4,14 @@ use mathlib.Core.Bool.{Bool, true, false, cond}
 use mathlib.Core.List.{List, [], ◌∷◌, ◌++◌, append_assoc}
 use Prim.Native.Nat.{ℕ, zero, suc, ◌+◌, ◌-◌, ◌*◌, ◌/◌, ◌%◌, ◌^◌, ◌≤◌, ◌<◌}
 use native.Mathlib.Nat.{pow-suc}
+use native.Mathlib.Numerals.{unary_clauses}
 use native.Mathlib.Omega.{arith}
 use lib.Dec.{ltb}
-use lib.ListN.{length, take, drop, set, replicate, take-append-drop, length-append, length-drop, length-replicate}
-use lib.Seq.{set_split, take-set-le, take-take, drop_at, length-take-le}
+use lib.ListN.{length, get_or, take, drop, set, replicate, take-append-drop, length-append, length-drop, length-replicate}
+use lib.Seq.{set_split, take-set-le, take-take, drop_at, drop-cons, length-take-le}
 use borrow.Author.Tests.{lt-ltb, le-ltb}
 use Rattle.digits.specs.declared.spelling.Decimal.{Decimal}
-use Rattle.digits.specs.Field.{digit, digits, decimal}
+use Rattle.digits.specs.Field.{digit, digits, decimal, hex}
 use Rattle.digits.specs.Spelled.{spelled}
 
 -- one digit
@@ -106,3 +107,16 @@ spelled_there n r e =
       ap length bytes ∙ length-append (replicate k 0) (decimal n) ∙ omega (arith, zeros, decimal_fits n),
       (omega (arith, from), ap₂ (λ (i : ℕ) (b : List ℕ). drop i b) from bytes ∙ drop_at (replicate k 0) (decimal n) k zeros),
     )
+
+-- bytes
+
+pub hex_fits : (s : List ℕ) → length (hex s) ≡ 2 * length s
+unfolding hex
+hex_fits [] = refl
+hex_fits (b ∷ s) = omega (arith, hex_fits s)
+
+-- the four bytes of s from `at`, one by one
+pub hex_four : (s : List ℕ) (at : ℕ) → at + 4 ≤ length s → hex (take 4 (drop at s)) ≡ hex (get_or s at 0 ∷ get_or s (at + 1) 0 ∷ get_or s (at + 2) 0 ∷ get_or s (at + 3) 0 ∷ [])
+hex_four s at h =
+    simp unary_clauses
+    (rw (drop-cons s at 0 (omega arith), drop-cons s (suc at) 0 (omega arith), drop-cons s (suc (suc at)) 0 (omega arith), drop-cons s (suc (suc (suc at))) 0 (omega arith)))
