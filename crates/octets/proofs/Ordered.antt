@@ -7,7 +7,7 @@ use Prim.Native.Nat.{ℕ, suc, ◌+◌, ◌*◌, ◌^◌, ◌≤◌, ◌<◌}
 use native.Mathlib.Nat.{suc_inj, le_refl, le_of_lt, mul-le-mul_right, suc-mul}
 use native.Mathlib.Decide.{dec_lt}
 use native.Mathlib.Omega.{arith}
-use lib.ListN.{length}
+use lib.ListN.{length, take, drop, take-append-drop}
 use borrow.Author.Tests.{le-ltb, lt-ltb, eq-eqb, ne_eqb}
 use Rattle.std.specs.declared.cmp.Ordering.{Ordering}
 use Rattle.std.specs.declared.cmp.Ordering.TheVariants.{Less, Equal, Greater}
@@ -191,6 +191,13 @@ order_append [] [] s t e = refl
 order_append [] (y ∷ ys) s t e = absurd (omega arith)
 order_append (x ∷ xs) [] s t e = absurd (omega arith)
 order_append (x ∷ xs) (y ∷ ys) s t e = rw (order_append xs ys s t (suc_inj e), then_then)
+
+-- where both are equal so far, the rest decides
+pub order_rest : (a b : List ℕ) (i : ℕ) → take i a ≡ take i b → byte_order a b ≡ byte_order (drop i a) (drop i b)
+order_rest a b i e =
+    (λ k. byte_order (sym (take-append-drop i a) k) (sym (take-append-drop i b) k))
+    ∙ order_append (take i a) (take i b) (drop i a) (drop i b) (ap length e)
+    ∙ rw (e, order_self (take i b))
 
 -- what stands above decides
 above : (x y : ℕ) (xs ys : List ℕ) → length xs ≡ length ys → Bytes xs → x < y → big (x ∷ xs) < big (y ∷ ys)
