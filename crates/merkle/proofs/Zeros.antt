@@ -7,13 +7,17 @@ use native.Mathlib.Numerals.{add-one}
 use native.Mathlib.Omega.{arith}
 use borrow.Author.Count.{below_more}
 use lib.ListN.{length, drop, get_or, set, replicate, length-drop}
-use lib.Pow.{pow_pos}
+use lib.Pow.{pow_pos, pow_mono}
 use Rattle.std.proofs.Common.{get_or-set_other, get_or-set_same}
 use Rattle.std.proofs.lemmas.List.{nil_from_length}
 use Rattle.merkle.specs.Tree.{pad_to, width, hash, root}
 use Rattle.merkle.specs.Zeros.{ZeroRoots}
 use Rattle.merkle.proofs.Halves.{width_suc, root_nothing}
 use Rattle.merkle.proofs.Stretch.{width_below}
+
+-- no level of the tree has more bytes than a chunk
+pub width_most : (l : ℕ) → l ≤ 7 → width l ≤ 4096
+width_most l h = omega (arith, pow_mono h)
 
 -- ---- filling it
 
@@ -35,7 +39,7 @@ rows_more prefix l table row h rows e =
     (rw get_or-set_same (e ∙ rw (rows l (omega arith), add-one) (sym (root_nothing prefix l))))
 
 -- a part that is smaller than that of level k is of a level below k
-width_tells : (l k : ℕ) → width l < width k → l < k
+pub width_tells : (l k : ℕ) → width l < width k → l < k
 width_tells l zero h = absurd (omega (arith, pow_pos l))
 width_tells zero (suc k) h = omega arith
 width_tells (suc l) (suc k) h =
