@@ -67,6 +67,17 @@ module _ (list id : List ℕ) where
       go (inl r) = r.1
       go (inr r) = absurd (f r.0)
 
+  -- what is found is a record as it should be, with the id
+  pub find_found : WellListed list → 0 < length (find id (records list)) → Whole (find id (records list)) × (id_of (find id (records list)) ≡ id)
+  find_found w h = go find_cases
+    where
+      go : ((Listed list id → ⊥) × (find id (records list) ≡ [])) ⊎ ((at : Listed list id) × (find id (records list) ≡ batch_at list at.0))
+          → Whole (find id (records list)) × (id_of (find id (records list)) ≡ id)
+      go (inl r) = absurd (omega (arith, ap length r.1))
+      go (inr r) =
+          let at = r.0 in
+          rw r.1 (record { all_there = length_batch_at list at.0 at.1; is_fit = w.all_fit at.0 at.1 }, at.2)
+
   -- in a well-formed list the record with the id is the one found
   pub find_held : WellListed list → (i : ℕ) → i < count list → id_of (batch_at list i) ≡ id → find id (records list) ≡ batch_at list i
   find_held w i h e = go find_cases
