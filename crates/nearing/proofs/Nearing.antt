@@ -1,7 +1,7 @@
 -- Nearness by two words: the bucket's and the overlay's first.
 use mathlib.Core.Path.{◌≡◌, sym, ap, ◌∙◌}
 use mathlib.Core.List.{List}
-use Prim.Native.Nat.{ℕ, ◌+◌, ◌-◌, ◌≤◌}
+use Prim.Native.Nat.{ℕ, ◌+◌, ◌-◌, ◌*◌, ◌≤◌}
 use native.Mathlib.Omega.{arith}
 use lib.Bits.{bit_xor}
 use lib.Count.{count_leading_zeros}
@@ -35,6 +35,15 @@ pub near_given : (s : List ℕ) → Bytes s → (x y : ℕ) → y ≡ big_at 2 s
 near_given s b x y ey g h k c ex =
     near_words (overlay_in s) g x y (part_length s 8 32 (omega arith)) k (bytes_take 32 (drop 8 s) (bytes_drop 8 s b)) c ex
     (ey ∙ sym (number_in_part 2 32 0 8 s (omega arith) (omega arith)))
+
+-- of a record of the book itself
+pub near_there : (s : List ℕ) → Bytes s → (x y : ℕ) → y ≡ big_at 2 s 8 → (i : ℕ) → 48 + 145 * (i + 1) ≤ length s → x ≡ big_at 2 s (82 + 145 * i)
+    → count_leading_zeros 16 (bit_xor x y) ≡ near_of (overlay_in s) (slot (take 145 (drop (48 + 145 * i) s)))
+near_there s b x y ey i h ex =
+    let from = 48 + 145 * i in
+    let e : 82 + 145 * i ≡ 48 + 145 * i + 34 = omega arith in
+    near_given s b x y ey (take 145 (drop from s)) (omega arith) (part_length s from 145 (omega arith)) (bytes_take 145 (drop from s) (bytes_drop from s b))
+    (ex ∙ ap (big_at 2 s) e ∙ sym (number_in_part 2 145 34 from s (omega arith) (omega arith)))
 
 pub near_in_lem : (s g : List ℕ) → 48 ≤ length s → length g ≡ 145 → near_in s g ≡ near_of (overlay_in s) (slot g)
 unfolding near_in
