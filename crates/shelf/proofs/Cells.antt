@@ -1,5 +1,5 @@
 -- What is read of a cell, and what is answered of it.
-use Rattle.std.specs.Prelude.{Result, Ok, Err, Bool, true, false, cond, List, [], ◌++◌, ◌≡◌, refl, ℕ, ◌+◌, ◌-◌, ◌≤◌, eqb, ltb, length, take, drop, replicate}
+use Rattle.std.specs.Prelude.{Result, Ok, Err, Bool, true, false, cond, List, [], ◌++◌, ◌≡◌, refl, ℕ, ◌+◌, ◌-◌, ◌≤◌, ◌<◌, eqb, ltb, length, take, drop, replicate}
 use Rattle.std.proofs.Common.{sym, ap, ap₂, ◌∙◌, arith}
 use Rattle.std.specs.Result.{result_unwrap_or, result_and}
 use mathlib.Core.List.{append-nil}
@@ -8,7 +8,7 @@ use Rattle.std.specs.Cmp.Lexicographic.{pointwise}
 use Rattle.std.specs.Bool.{Decides}
 use Rattle.std.proofs.lemmas.Slice.Eq.{bytes_eq-Decides}
 use lib.Seq.{take_at, length-take-le}
-use borrow.Author.Tests.{le-ltb, ltb-false}
+use borrow.Author.Tests.{lt-ltb, le-ltb, ltb-false}
 use Rattle.octets.specs.Number.{big_at}
 use Rattle.octets.specs.Order.{byte_order}
 use Rattle.moving.specs.Moving.{over, placed}
@@ -30,6 +30,23 @@ use Rattle.shelf.specs.Read.{matching, cell_answer, pair_read, cell_read}
 use Rattle.shelf.proofs.Pairs.{own_length}
 
 -- ---- what is answered
+
+module _ (recorded s : List ℕ) where
+  pub cell_short : length s < 10 → Err ShelfEnds ≡ cell_answer recorded s
+  unfolding cell_answer
+  cell_short h = rw (lt-ltb _ _ h)
+
+  pub cell_long : 10 ≤ length s → 4096 < size_in s → Err TooLong ≡ cell_answer recorded s
+  unfolding cell_answer
+  cell_long h k = rw (le-ltb _ _ h, lt-ltb _ _ k)
+
+  pub cell_cut : 10 ≤ length s → size_in s ≤ 4096 → length s < 10 + size_in s → Err ShelfEnds ≡ cell_answer recorded s
+  unfolding cell_answer
+  cell_cut h k j = rw (le-ltb _ _ h, le-ltb _ _ k, lt-ltb _ _ j)
+
+  pub cell_whole : 10 ≤ length s → size_in s ≤ 4096 → 10 + size_in s ≤ length s → matching (byte_order (own_address (cell_in s)) recorded) ≡ cell_answer recorded s
+  unfolding cell_answer
+  cell_whole h k j = rw (le-ltb _ _ h, le-ltb _ _ k, le-ltb _ _ j)
 
 pub compared : (a b : List ℕ) → matching (byte_order a b) ≡ cond (pointwise eqb a b) (Ok tt) (Err Mismatch)
 compared a b = by (byte_order a b) (pointwise eqb a b) refl refl
@@ -70,6 +87,16 @@ module _ (s address anchor : List ℕ) where
   abbrev found : CellRead
   found = record { size = 10 + size_in s; pair = pair_read anchor (cell_in s) }
 
+  -- what is answered of the cell is what is read of it
+  pub read_found : cell_answer address s ≡ Ok tt → cell_read s address anchor ≡ Ok found
+  unfolding cell_read
+  read_found h = rw h
+
+  pub read_refused : (error : CellError) → cell_answer address s ≡ Err error → cell_read s address anchor ≡ Err error
+  unfolding cell_read
+  read_refused error h = rw h
+
+  -- and the other way round
   pub read_wrong : (error : CellError) → cell_read s address anchor ≡ Err error → cell_answer address s ≡ Err error
   unfolding cell_read
   read_wrong error = by (cell_answer address s)
