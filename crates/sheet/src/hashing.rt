@@ -1,5 +1,5 @@
 // What document 01's prose on hashing says of a few messages.
-use crate::tally::{Hex, Tally};
+use crate::tally::Tally;
 use keccak::{Sponge, keccak256};
 use std::io;
 
@@ -11,11 +11,11 @@ pub(crate) fn run(rt: &impl Print, tally: &mut Tally) -> io::Result<()> {
         lanes: [7u64; 25],
         place: 136,
     };
-    tally.add(
+    tally.bytes(
         rt,
         "A hash state whose place is 136 counts as a fresh one",
-        Hex(Sponge::new().finish()),
-        Hex(stale.finish()),
+        Sponge::new().finish(),
+        stale.finish(),
     )
 }
 
@@ -25,11 +25,11 @@ fn padding(rt: &impl Print, tally: &mut Tally) -> io::Result<()> {
     let mut block = [0x5au8; 136];
     block[135] = 0x81;
     let permuted = Sponge::new().absorb(&block);
-    tally.add(
+    tally.bytes(
         rt,
         "With 135 bytes in the last block the single padding byte is 0x81",
-        Hex(first_lanes(permuted)),
-        Hex(keccak256(&message)),
+        first_lanes(permuted),
+        keccak256(&message),
     )
 }
 
@@ -42,11 +42,11 @@ fn parts(rt: &impl Print, tally: &mut Tally) -> io::Result<()> {
     let mut joined = [1u8; 200];
     joined[10..160].copy_from_slice(&second);
     joined[160..].copy_from_slice(&third);
-    tally.add(
+    tally.bytes(
         rt,
         "A message handed over as several parts hashes as the joined parts",
-        Hex(keccak256(&joined)),
-        Hex(sponge.finish()),
+        keccak256(&joined),
+        sponge.finish(),
     )
 }
 

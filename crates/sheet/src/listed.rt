@@ -1,6 +1,6 @@
 // The book of the listing example: what its text is printed from.
 use crate::stamped::{BOOK, begun, offered, opened};
-use crate::tally::{Hex, Tally};
+use crate::tally::Tally;
 use answers::Numbered;
 use book::header::{capacity, count, depth, overfull, starting_depth};
 use nearness::near::{bits, nearness};
@@ -32,7 +32,7 @@ fn offers(rt: &impl Print, tally: &mut Tally, book: &mut [u8; BOOK]) -> io::Resu
 fn header(rt: &impl Print, tally: &mut Tally, book: &[u8; BOOK]) -> io::Result<()> {
     println!(rt; "RSV 1 good 0 0 2 16")?;
     tally.add(rt, "Well formed", 0, check_book(book).number())?;
-    tally.add(rt, "Mark and a zero byte", Hex(*b"RSV\0"), first_four(book))?;
+    tally.bytes(rt, "Mark and a zero byte", *b"RSV\0", first_four(book))?;
     tally.add(rt, "Version", 1, read::<u16>(book, 3))?;
     tally.add(rt, "State good", 0, u8::from(overfull(book)))
 }
@@ -64,10 +64,10 @@ fn record(
     index: u32,
     time: u64,
 ) -> io::Result<()> {
-    tally.add(
+    tally.bytes(
         rt,
         "First four batch bytes",
-        Hex([0x11; 4]),
+        [0x11; 4],
         first_four(record),
     )?;
     tally.add(rt, "Bucket", bucket, read::<u32>(record, 32))?;
@@ -84,15 +84,15 @@ fn address(
     shared: u32,
 ) -> io::Result<()> {
     let overlay = [0u8; 32];
-    tally.add(
+    tally.bytes(
         rt,
         "First four address bytes",
-        Hex(first),
+        first,
         first_four(address),
     )?;
     tally.add(rt, "Shared bits", shared, bits(nearness(address, &overlay)))
 }
 
-fn first_four(bytes: &[u8]) -> Hex<4> {
-    Hex(read::<u32>(bytes, 0).to_be_bytes())
+fn first_four(bytes: &[u8]) -> [u8; 4] {
+    read::<u32>(bytes, 0).to_be_bytes()
 }

@@ -19,7 +19,7 @@ impl Tally {
         }
     }
 
-    // One example more, of two numbers, or of bytes in hexadecimal: its line, which ends with the verdict.
+    // One example more, of two numbers.
     pub(crate) fn add<T: PartialEq + Display + Drop>(
         &mut self,
         rt: &impl Print,
@@ -27,8 +27,32 @@ impl Tally {
         expected: T,
         came: T,
     ) -> io::Result<()> {
+        self.judge(rt, example, &expected, &came, judged(&expected, &came))
+    }
+
+    // One of bytes. The bytes are judged, and only shown in hexadecimal: of them `verdict` says what is equal.
+    pub(crate) fn bytes<const N: usize>(
+        &mut self,
+        rt: &impl Print,
+        example: &str,
+        expected: [u8; N],
+        came: [u8; N],
+    ) -> io::Result<()> {
+        let verdict = judged(&expected, &came);
+        self.judge(rt, example, &Hex(expected), &Hex(came), verdict)
+    }
+
+    // An example's line, which ends with the verdict.
+    fn judge<T: Display>(
+        &mut self,
+        rt: &impl Print,
+        example: &str,
+        expected: &T,
+        came: &T,
+        verdict: Verdict,
+    ) -> io::Result<()> {
         print!(rt; "{example}: expected {expected}, came {came}")?;
-        match judged(&expected, &came) {
+        match verdict {
             Verdict::Equal => {
                 self.equal = one_more(self.equal);
                 println!(rt; ", equal")
@@ -50,8 +74,8 @@ impl Tally {
 }
 
 // Bytes in hexadecimal, two digits each.
-#[derive(PartialEq, Drop)]
-pub(crate) struct Hex<const N: usize>(pub(crate) [u8; N]);
+#[derive(Drop)]
+struct Hex<const N: usize>([u8; N]);
 
 impl<const N: usize> Display for Hex<N> {
     fn fmt<W: fmt::Write>(&self, f: &mut fmt::Formatter<W>) -> fmt::Result {
