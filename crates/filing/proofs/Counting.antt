@@ -6,9 +6,10 @@ use Prim.Native.Nat.{ℕ, suc, ◌+◌, ◌-◌, ◌/◌, ◌^◌, ◌≤◌, �
 use native.Mathlib.Numerals.{add-one}
 use native.Mathlib.Omega.{arith}
 use lib.Dec.{eqb, leb}
-use borrow.Author.Tests.{eq-eqb}
+use borrow.Author.Tests.{eq-eqb, le-leb, lt-leb}
 use lib.ListN.{length, get_or, take, drop, set}
 use lib.Seq.{length-take-le, take_all}
+use Rattle.std.specs.Prelude.{Option, Some, None}
 use Rattle.octets.specs.Number.{big_at, bytes_of}
 use Rattle.octets.proofs.Numbers.{length_bytes_of}
 use Rattle.nearness.proofs.Shared.{shared_bits_most}
@@ -23,7 +24,7 @@ use Rattle.book.specs.Shape.{shape, shape_in}
 use Rattle.book.proofs.Fields.{header_overlay, header_capacity, header_capacity_in, header_byte}
 use Rattle.filing.specs.Whole.{whole}
 use Rattle.nearing.specs.Near.{near_in}
-use Rattle.filing.specs.Least.{least_in}
+use Rattle.filing.specs.Least.{rising, least_in}
 use Rattle.filing.proofs.Wholeness.{whole_room}
 use Rattle.nearing.proofs.Nearing.{near_in_lem}
 
@@ -83,6 +84,13 @@ least_told s g header l capacity depth r t size e head all w ec ed er =
     er ∙ (λ i. least (room i) (next i) (drop (next i) t))
     ∙ least_fit_lem (shape_in s) (16 - depth_in s) (suc (depth_in s)) t (g ∷ records_in s) counters (omega arith)
     ∙ sym (least_in_lem s g size e)
+
+-- a number that is a depth is told as it is, one past 16 as none
+pub depth_told : (n : ℕ) → n ≤ 16 → Some n ≡ rising n
+depth_told n h = rw (le-leb n 16 h)
+
+pub none_told : (n : ℕ) → 16 < n → ◌≡◌ {A = Option ℕ} None (rising n)
+none_told n h = rw (lt-leb n 16 h)
 
 -- where the walk down the counters ends without a stop, or never starts
 pub walk_end : (capacity : ℕ) (t : List ℕ) (from depth kept : ℕ) → length t ≡ 17 → (from ≤ 17 → Descent capacity t from depth kept) → depth ≤ from → least capacity from (drop from t) ≡ from

@@ -4,8 +4,11 @@ use Rattle.std.proofs.Common.{sym, ◌∙◌}
 use Rattle.filing.specs.Least.{rising, least_in}
 use Rattle.filing.specs.Keep.{kept_bytes, staying}
 
-pub least_depth_determined : (s g : List ℕ) (r r' : Option ℕ) → r ≡ rising (least_in s g) → r' ≡ rising (least_in s g) → r ≡ r'
+pub least_depth_determined : (s g : List ℕ) (r r' : ℕ) → r ≡ least_in s g → r' ≡ least_in s g → r ≡ r'
 least_depth_determined s g r r' p q = p ∙ sym q
+
+pub rising_depth_determined : (s g : List ℕ) (r r' : Option ℕ) → r ≡ rising (least_in s g) → r' ≡ rising (least_in s g) → r ≡ r'
+rising_depth_determined s g r r' p q = p ∙ sym q
 
 pub keep_inside_determined : (s : List ℕ) (i d r r' : ℕ) (t t' : List ℕ)
     → (r ≡ staying s i d) × (t ≡ kept_bytes s d) → (r' ≡ staying s i d) × (t' ≡ kept_bytes s d) → (r ≡ r') × (t ≡ t')

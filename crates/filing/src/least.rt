@@ -8,14 +8,27 @@ use crate::whole::parts;
 use book::header::{capacity, depth};
 use nearing::near::near;
 
-// The least depth above its own at which the records of a book, the given one counted, fit; None where there is none.
-pub fn least_depth(book: &[u8], given: &[u8]) -> Option<u8>
+// The least depth above its own at which the records of a book, the given one counted, fit; 17 where there is none. Bytes that do not
+// hold what their header counts, and a given part that is no record, have 17 too. A number, since `least_in` promises one of every input:
+// of a book whose depth byte is past 16 the next one.
+pub fn least_depth(book: &[u8], given: &[u8]) -> usize
+    ensures { result ≡ least_in book.now given.now }
+{
+    let Some(given) = given.as_array() else {
+        return 17;
+    };
+    let Some((header, records)) = parts(book) else {
+        return 17;
+    };
+    let counters = tally(header, records, given);
+    lowest(counters, capacity(header), usize::from(depth(header)) + 1)
+}
+
+// The same where a book can rise to it; None where there is none, past 16.
+pub fn rising_depth(book: &[u8], given: &[u8]) -> Option<u8>
     ensures { result ≡ rising (least_in book.now given.now) }
 {
-    let given = given.as_array()?;
-    let (header, records) = parts(book)?;
-    let counters = tally(header, records, given);
-    let least = lowest(counters, capacity(header), usize::from(depth(header)) + 1);
+    let least = least_depth(book, given);
     if least <= 16 { Some(least as u8) } else { None }
 }
 

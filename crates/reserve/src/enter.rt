@@ -10,7 +10,7 @@ use book::header::{capacity, count, depth};
 use book::record::record_at;
 use editing::edit::{add_record, burst};
 use filing::keep::keep_inside;
-use filing::least::least_depth;
+use filing::least::rising_depth;
 use moving::put;
 use nearing::near::near;
 use records::rank::{Choice, choose};
@@ -81,7 +81,7 @@ impl Claim {
         requires { Free book.old self.now.given self.now.at × (capacity_in book.old ≤ count_in book.old) }
         ensures { Ends book.old self.now.given (offer_number result) book.new }
     {
-        let Some(least) = least_depth(book, &self.given) else {
+        let Some(least) = rising_depth(book, &self.given) else {
             burst(book);
             return Ok(Filed::Burst);
         };

@@ -10,12 +10,12 @@ pub returns-in_default : goal.returns-in_default
 returns-in_default c =
     let a = c.args in
     let least = least_in a.book.now a.self.now.given in
-    Rises.rise_bursts a.book.now a.self.now.given a.self.now.at c.requires.0 c.requires.1 least refl (Rises.past least (sym c.least_depth.ensures ∙ c.in_default.is)) _ c.burst.ensures
+    Rises.rise_bursts a.book.now a.self.now.given a.self.now.at c.requires.0 c.requires.1 least refl (Rises.past least (sym c.rising_depth.ensures ∙ c.in_default.is)) _ c.burst.ensures
 
 pub returns-then-own-least : goal.returns-then-own-least
 returns-then-own-least c =
     let a = c.args in
-    let least = Rises.reached (least_in a.book.now a.self.now.given) c.in-Some.least (sym c.least_depth.ensures ∙ c.in-Some.is) in
+    let least = Rises.reached (least_in a.book.now a.self.now.given) c.in-Some.least (sym c.rising_depth.ensures ∙ c.in-Some.is) in
     let near = Enters.near_there a.book.now a.self.now.given c.requires.0.at.awaits in
     Rises.rise_drops a.book.now a.self.now.given a.self.now.at c.requires.0 c.requires.1 c.in-Some.least least.0 (omega (arith, least.0, least.1)) _
     c.keep_inside-before.ensures.book_after (omega (arith, near))
@@ -23,7 +23,7 @@ returns-then-own-least c =
 pub returns : goal.returns
 returns c =
     let a = c.args in
-    let least = Rises.reached (least_in a.book.now a.self.now.given) c.in-Some.least (sym c.least_depth.ensures ∙ c.in-Some.is) in
+    let least = Rises.reached (least_in a.book.now a.self.now.given) c.in-Some.least (sym c.rising_depth.ensures ∙ c.in-Some.is) in
     let near = Enters.near_there a.book.now a.self.now.given c.requires.0.at.awaits in
     Rises.rise_keeps a.book.now a.self.now.given a.self.now.at c.requires.0 c.requires.1 c.in-Some.least least.0 (omega (arith, least.0, least.1)) _
     c.keep_inside-before.ensures.book_after (omega (arith, near)) c.count-all.result c.keep_inside-before.result c.count-all.ensures c.keep_inside-before.ensures.value _ c.add_record.ensures
