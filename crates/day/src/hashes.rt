@@ -4,6 +4,7 @@ use crate::text::Hex;
 use answers::Numbered;
 use draw::DrawError;
 use std::io;
+use verdict::equal::same_digest;
 use verdict::machines::{agree, one_hash};
 
 // The anchor, and a line for each machine.
@@ -54,7 +55,7 @@ pub(crate) fn on_books(rt: &impl Print, machines: &[Machine; 4]) -> io::Result<(
     let [first, ..] = machines;
     if machines
         .iter()
-        .all(|machine| machine.digest == first.digest)
+        .all(|machine| same_digest(&machine.digest, &first.digest))
     {
         println!(rt; "What the books came to does not: four orders, one digest.\n")
     } else {
@@ -70,7 +71,7 @@ pub(crate) fn on_missed(rt: &impl Print, machines: &[Machine; 4]) -> io::Result<
             continue;
         }
         let same = match (
-            machine.digest == first.digest,
+            same_digest(&machine.digest, &first.digest),
             one_hash(&first.drawn, &machine.drawn),
         ) {
             (true, true) => "its book and its hash are machine A's all the same",

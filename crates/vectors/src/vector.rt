@@ -6,7 +6,7 @@ use crate::field::Stop;
 use keccak::{Sponge, keccak256};
 use std::mem;
 use verdict::count::one_more;
-use verdict::equal::{Verdict, judged};
+use verdict::equal::{Verdict, judged, same_digest};
 
 #[derive(Drop)]
 pub(crate) struct Vector {
@@ -48,7 +48,7 @@ impl Vector {
 
     // A second part takes back what the first one said, since one call hashes one part.
     fn add_part(&mut self, digest: [u8; 32], part: &[u8]) {
-        self.agrees = self.parts > 0 || keccak256(part) == digest;
+        self.agrees = self.parts > 0 || same_digest(&keccak256(part), &digest);
         self.parts = one_more(self.parts);
         let sponge = mem::replace(&mut self.sponge, Sponge::new());
         self.sponge = sponge.absorb(part);

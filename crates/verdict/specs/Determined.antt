@@ -21,7 +21,6 @@ judged_determined = judged_alike_determined same_number
 pub judged_bytes_determined : (expected came : List ℕ) (r r' : Verdict) → r ≡ judged_by (same expected came) → r' ≡ judged_by (same expected came) → r ≡ r'
 judged_bytes_determined = judged_alike_determined same
 
--- std's == of digests
 pub same_digest_determined : (a b : List ℕ) (r r' : Bool) → r ≡ same a b → r' ≡ same a b → r ≡ r'
 same_digest_determined a b r r' p q = p ∙ sym q
 

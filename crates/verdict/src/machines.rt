@@ -2,6 +2,8 @@
 ghost use Rattle.std.specs.Prelude.{◌≡◌};
 ghost use Rattle.verdict.specs.Agree.{one_hash, all_agreed};
 
+use crate::equal::same_digest;
+
 // Whether the four machines agree: all drew, and all drew the first one's hash.
 pub fn agree<E>(draws: &[Result<[u8; 32], E>; 4]) -> bool
     ensures { result ≡ all_agreed draws.now }
@@ -15,7 +17,7 @@ pub fn one_hash<E>(a: &Result<[u8; 32], E>, b: &Result<[u8; 32], E>) -> bool
     ensures { result ≡ one_hash a.now b.now }
 {
     match (a, b) {
-        (Ok(first), Ok(second)) => first == second,
+        (Ok(first), Ok(second)) => same_digest(first, second),
         _ => false,
     }
 }
