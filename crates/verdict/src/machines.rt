@@ -12,12 +12,13 @@ pub fn agree<E>(draws: &[Result<[u8; 32], E>; 4]) -> bool
     one_hash(a, b) && one_hash(a, c) && one_hash(a, d)
 }
 
-// Whether two machines drew, and drew one hash.
+// Whether two machines drew, and drew one hash. Each arm is an equation of its definition.
 pub fn one_hash<E>(a: &Result<[u8; 32], E>, b: &Result<[u8; 32], E>) -> bool
     ensures { result ≡ one_hash a.now b.now }
 {
     match (a, b) {
         (Ok(first), Ok(second)) => same_digest(first, second),
-        _ => false,
+        (Ok(_), Err(_)) => false,
+        (Err(_), _) => false,
     }
 }
