@@ -64,12 +64,7 @@ fn record(
     index: u32,
     time: u64,
 ) -> io::Result<()> {
-    tally.bytes(
-        rt,
-        "First four batch bytes",
-        [0x11; 4],
-        first_four(record),
-    )?;
+    tally.bytes(rt, "First four batch bytes", [0x11; 4], first_four(record))?;
     tally.add(rt, "Bucket", bucket, read::<u32>(record, 32))?;
     tally.add(rt, "Index", index, read::<u32>(record, 36))?;
     tally.add(rt, "Time", time, read::<u64>(record, 40))
@@ -84,12 +79,7 @@ fn address(
     shared: u32,
 ) -> io::Result<()> {
     let overlay = [0u8; 32];
-    tally.bytes(
-        rt,
-        "First four address bytes",
-        first,
-        first_four(address),
-    )?;
+    tally.bytes(rt, "First four address bytes", first, first_four(address))?;
     tally.add(rt, "Shared bits", shared, bits(nearness(address, &overlay)))
 }
 

@@ -8,7 +8,7 @@ use lib.Dec.{eqb}
 use lib.ListN.{length, get_or}
 use lib.Pointwise.{pointwise, bytes_decides}
 use borrow.Author.Tests.{eqb-true, eq-eqb}
-use Rattle.std.specs.Prelude.{Result, Ok, Err}
+use Rattle.std.specs.Prelude.{Result, Ok, Err, nat_eq}
 use Rattle.verdict.specs.declared.equal.Verdict.TheVariants.{Equal, Differs}
 use Rattle.verdict.specs.Equal.{same, same_number, judged_by, Tells, EqualWhere}
 use Rattle.verdict.specs.Agree.{one_hash, agreed, all_agreed, OneHash, Agree}
@@ -16,6 +16,10 @@ use Rattle.verdict.proofs.Tests.{both_told}
 
 pub number_told : (x y : ℕ) → Tells (same_number x y) (x ≡ y)
 number_told x y = (eqb-true x y, eq-eqb x y)
+
+-- std's `==` of two numbers asks what `same_number` asks
+pub numbers_compared : (x y : ℕ) → nat_eq x y ≡ same_number x y
+numbers_compared x y = refl
 
 -- std's `==` of two strings, and of two digests, asks what `same` asks
 pub compared : (a b : List ℕ) → pointwise eqb a b ≡ same a b
