@@ -30,7 +30,10 @@ pub fn higher<'a>(first: &'a [u8], second: &'a [u8]) -> &'a [u8]
 pub fn choose(first: &[u8], second: &[u8]) -> Choice
     ensures { result ≡ choice first.now second.now }
 {
-    let (Some(first), Some(second)) = (first.as_array(), second.as_array()) else {
+    let Some(first) = first.as_array() else {
+        return Choice::Neither;
+    };
+    let Some(second) = second.as_array() else {
         return Choice::Neither;
     };
     if compare(&first[..40], &second[..40]).is_ne() {

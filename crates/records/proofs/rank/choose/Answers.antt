@@ -20,18 +20,18 @@ not_ne Greater e = absurd (false≢true e)
 
 pub returns-in_default : goal.returns-in_default
 unfolding choice
-returns-in_default c = rw (eq-eqb _ _ c.in_default.ensures.cases.long, ne_eqb _ _ c.in_default.ensures'.cases)
+returns-in_default c = rw (ne_eqb _ _ c.in_default.ensures.cases)
 
-pub returns-in_default-2 : goal.returns-in_default-2
+pub returns-in_default-as_array : goal.returns-in_default-as_array
 unfolding choice
-returns-in_default-2 c = rw (ne_eqb _ _ c.in_default.ensures.cases)
+returns-in_default-as_array c = rw (eq-eqb _ _ c.in-Some.ensures.cases.long, ne_eqb _ _ c.in_default-as_array.ensures.cases)
 
 pub returns-then-is_ne : goal.returns-then-is_ne
 returns-then-is_ne c =
     let a = c.args.first.now in
     let b = c.args.second.now in
-    let f = c.in-Some-Some.ensures.cases in
-    let g = c.in-Some-Some.ensures'.cases in
+    let f = c.in-Some.ensures.cases in
+    let g = c.in-Some-as_array.ensures.cases in
     let slots : c.compare.result ≡ byte_order (take 40 a) (take 40 b) = c.compare.ensures ∙ rw (f.same, g.same) in
     sym
     (Ranks.choice_two_slots a b f.long g.long
@@ -45,7 +45,7 @@ pub returns : goal.returns
 returns c =
     let a = c.args.first.now in
     let b = c.args.second.now in
-    let f = c.in-Some-Some.ensures.cases in
-    let g = c.in-Some-Some.ensures'.cases in
+    let f = c.in-Some.ensures.cases in
+    let g = c.in-Some-as_array.ensures.cases in
     let one_slot : take 40 a ≡ take 40 b = ap (take 40) (sym f.same) ∙ same_equal _ _ (sym c.compare.ensures ∙ not_ne _ c.if-is_ne.ensures) ∙ ap (take 40) g.same in
     c.prefer.ensures ∙ ap preferred (c.rank.ensures ∙ rw (f.same, g.same)) ∙ sym (Ranks.choice_one_slot a b f.long g.long one_slot)
