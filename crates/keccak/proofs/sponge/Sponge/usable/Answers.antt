@@ -1,5 +1,5 @@
 -- `keccak::Sponge::usable` meets its contract.
-use mathlib.Core.Path.{sym, ◌∙◌, subst}
+use mathlib.Core.Path.{sym}
 use Rattle.std.proofs.Common.{rules}
 use Rattle.keccak.specs.Sponge.{Sound}
 use Rattle.keccak.proofs.Step.{usable_in, usable_out, fresh_sound}
@@ -10,5 +10,4 @@ returns-then-self-lt-RATE c =
     (sym (usable_in c.args.self c.if-self-lt-RATE.true), record { lanes25 = search rules; in_block = c.if-self-lt-RATE.true })
 
 pub returns-else-self-lt-RATE : goal.returns-else-self-lt-RATE
-returns-else-self-lt-RATE c =
-    (c.new.ensures ∙ sym (usable_out c.args.self c.if-self-lt-RATE.false), subst Sound (sym c.new.ensures) fresh_sound)
+returns-else-self-lt-RATE c = rw c.new.ensures (sym (usable_out c.args.self c.if-self-lt-RATE.false), fresh_sound)
