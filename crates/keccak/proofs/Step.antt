@@ -14,7 +14,7 @@ use lib.Seq.{take-suc, take-add, take-length, length-take-le}
 use Rattle.std.specs.Simd.{first_chunks}
 use Rattle.octets.specs.Bytes.{Bytes}
 use Rattle.octets.specs.Number.{little}
-use Rattle.octets.proofs.Bytes.{bytes_parts}
+use Rattle.octets.proofs.Bytes.{bytes_parts, bytes_take}
 use Rattle.permutation.specs.Permutation.{permute}
 use Rattle.permutation.proofs.Rounds.{permute_length}
 use Rattle.keccak.specs.declared.sponge.Sponge.{Sponge}
@@ -203,6 +203,14 @@ three_parts s t u v p first middle rest et eu ev e =
 
 pub parted : (p : List ℕ) (k m : ℕ) → (take k p ++ take m (drop k p)) ++ drop m (drop k p) ≡ p
 parted p k m = rw (append_assoc, take-append-drop m (drop k p), take-append-drop k p)
+
+-- the whole words of a string, and what is left behind them, are the string, whichever way it was named
+pub chunked : (x xs : List ℕ) (ws : List (List ℕ)) (left : List ℕ) → ws ≡ first_chunks 8 (length x / 8) x → left ≡ drop (length x / 8 * 8) x → x ≡ xs
+    → joined_parts ws ++ left ≡ xs
+chunked x xs ws left ew el e = (λ i. (ap joined_parts ew ∙ words_joined (length x / 8) x) i ++ el i) ∙ take-append-drop (length x / 8 * 8) x ∙ e
+
+pub chunks_bytes : (x : List ℕ) (ws : List (List ℕ)) → ws ≡ first_chunks 8 (length x / 8) x → Bytes x → Bytes (joined_parts ws)
+chunks_bytes x ws e h = subst Bytes (sym (ap joined_parts e ∙ words_joined (length x / 8) x)) (bytes_take (length x / 8 * 8) x h)
 
 -- what `finish` leaves in the lanes, where p is 0x01 at its place
 pub padded_lanes : (s : Sponge) (p : ℕ) → p ≡ 0x01 * 2 ^ (8 * (s.place % 8)) % 2 ^ 64

@@ -1,7 +1,6 @@
 -- `keccak::Sponge::usable` meets its contract.
 use mathlib.Core.Path.{sym}
 use Rattle.std.proofs.Common.{rules}
-use Rattle.keccak.specs.Sponge.{Sound}
 use Rattle.keccak.proofs.Step.{usable_in, usable_out, fresh_sound}
 use Rattle.keccak.proofs.sponge.Sponge.usable.Goals as goal
 
