@@ -1,7 +1,7 @@
 -- Laws of edits.
-use mathlib.Core.Path.{◌≡◌, refl, sym, ◌∙◌}
+use mathlib.Core.Path.{◌≡◌, refl, sym, ap, ◌∙◌}
 use mathlib.Core.Bool.{Bool, true, false, cond, ◌&&◌}
-use mathlib.Core.List.{List, [], ◌++◌, append_assoc, append-nil}
+use mathlib.Core.List.{List, [], ◌∷◌, ◌++◌, append_assoc, append-nil}
 use Prim.Native.Nat.{ℕ, ◌+◌, ◌-◌, ◌≤◌, ◌<◌}
 use native.Mathlib.Nat.{add-zero}
 use native.Mathlib.Omega.{arith}
@@ -9,8 +9,8 @@ use lib.Dec.{leb}
 use lib.ListN.{length, take, drop, take-append-drop, length-append, length-take, length-drop}
 use lib.Seq.{paste, take-length, length-take-le, take-append-le, take-take, drop-drop, drop_at, take-append_seam, drop-append-add, take-add}
 use borrow.Author.Tests.{le-leb, lt-leb, leb-true}
-use borrow.Rule.Slice.PartMut.{put_mid}
-use Rattle.std.proofs.lemmas.Slice.{put_mid-paste}
+use borrow.Rule.Slice.PartMut.{put_mid, take_put}
+use Rattle.std.proofs.lemmas.Slice.{put_mid-paste, drop-put_mid}
 use Rattle.octets.proofs.Parts.{part_length}
 use Rattle.moving.specs.Moving.{over, placed, lowered, raised, inserted}
 
@@ -82,6 +82,22 @@ module _ (s : List ℕ) (at : ℕ) (v : List ℕ) where
   pub length_placed : length (placed s at v) ≡ length s
   unfolding placed
   length_placed = either (λ l. length l ≡ length s) (leb (at + length v) (length s)) (over s at v) s (λ h. length_over s at v (leb-true _ _ h)) refl
+
+-- a part that is written is placed, and of two writes of it the last holds
+pub put_placed : (s : List ℕ) (at k : ℕ) (w : List ℕ) → k ≡ length w → at + length w ≤ length s → put_mid at k s w ≡ placed s at w
+put_placed s at k w e h = over_put s at k w w refl e ∙ sym (placed_fits s at w h)
+
+pub put_twice : (s : List ℕ) (at k : ℕ) (x y : List ℕ) → length x ≡ k → at + k ≤ length s → put_mid at k (put_mid at k s x) y ≡ put_mid at k s y
+put_twice s at k x y e h =
+    let front : take at (put_mid at k s x) ≡ take at s = take_put at k s x (omega arith) in
+    let back : drop k (drop at (put_mid at k s x)) ≡ drop k (drop at s) =
+    drop-drop k at (put_mid at k s x) ∙ drop-put_mid at k s x (at + k) (omega arith) (omega arith) e ∙ sym (drop-drop k at s) in
+    λ i. front i ++ (y ++ back i)
+
+-- and a write of nothing changes nothing
+pub put_none : (s : List ℕ) (at k : ℕ) (w : List ℕ) → k ≡ 0 → length w ≡ 0 → put_mid at k s w ≡ s
+put_none s at k [] e h = ap (λ m. take at s ++ drop m (drop at s)) e ∙ take-append-drop at s
+put_none s at k (x ∷ w) e h = absurd (omega arith)
 
 module _ (s : List ℕ) (from to n : ℕ) where
   pub lowered_fits : to ≤ from → from + n ≤ length s → lowered s from to n ≡ over s to (take n (drop from s))
