@@ -1,6 +1,6 @@
 // The rules that a stamp must pass, in their order.
-ghost use Rattle.std.specs.Prelude.{◌≡◌};
-ghost use Rattle.batches.specs.Batch.{Whole};
+ghost use Rattle.std.specs.Prelude.{◌≡◌, ◌≤◌, length, take};
+ghost use Rattle.batches.specs.Batch.{Whole, well_listed};
 ghost use Rattle.postage.specs.Rules.{error_number, in_bucket, in_slots, is_owner, judged, checked};
 ghost use Rattle.postage.specs.declared.rules.StampError.TheVariants.{WrongLength};
 
@@ -54,7 +54,7 @@ pub fn check_stamp(
 ) -> Result<(), StampError>
     ensures { result ≡ checked batches.now address.now stamp.now account.now }
 {
-    if !check_batches(batches) {
+    if !stands(batches, batches.len()) {
         return Err(StampError::BadList);
     }
     let address: &[u8; 32] = address.try_into()?;
@@ -62,6 +62,14 @@ pub fn check_stamp(
     let account: &[u8; 20] = account.try_into()?;
     let batch = find(batches, &stamp[..ID]).ok_or(StampError::NoBatch)?;
     judge(batch, address, stamp, account)
+}
+
+// Whether the list is well formed as far as `end`. By its end, so that nothing but a length says that the whole list is checked.
+fn stands(batches: &[u8], end: usize) -> bool
+    requires { end ≤ length batches.now }
+    ensures { result ≡ well_listed (take end batches.now) }
+{
+    check_batches(&batches[..end])
 }
 
 // Rules 17 to 19: the first that is broken answers.
