@@ -1,10 +1,10 @@
 -- A fresh book's bytes, written one part after another.
 use mathlib.Core.Path.{◌≡◌, refl, sym, ap, ◌∙◌}
-use mathlib.Core.List.{List, [], ◌∷◌, ◌++◌}
+use mathlib.Core.List.{List, [], ◌∷◌, ◌++◌, append-nil}
 use Prim.Native.Nat.{ℕ, ◌+◌, ◌*◌, ◌≤◌}
 use native.Mathlib.Nat.{sub-zero}
 use native.Mathlib.Omega.{arith}
-use lib.ListN.{length, set, replicate, length-append, replicate-append-replicate}
+use lib.ListN.{length, set, drop, replicate, length-append, replicate-append-replicate, drop_of_length-le}
 use Rattle.octets.specs.Number.{bytes_of}
 use Rattle.moving.specs.Moving.{over, placed}
 use Rattle.octets.proofs.Numbers.{length_bytes_of}
@@ -13,6 +13,12 @@ use Rattle.book.specs.Layout.{mark, laid}
 use Rattle.book.specs.Book.{write}
 use Rattle.opening.specs.Open.{fresh_book}
 use Rattle.book.proofs.Headed.{over_middle}
+
+-- a buffer is cleared whole where it is cleared as far as its end
+pub cleared : (s a : List ℕ) (end : ℕ) → a ≡ replicate end 0 ++ drop end s → end ≡ length s → a ≡ replicate (length s) 0
+cleared s a end e h =
+    let none : drop end s ≡ [] = drop_of_length-le s {i = end} (omega (arith, h)) in
+    e ∙ ap (λ (l : List ℕ). replicate end 0 ++ l) none ∙ append-nil (replicate end 0) ∙ ap (λ (n : ℕ). replicate {A = ℕ} n 0) h
 
 -- the parts of a cleared buffer
 parts : (n : ℕ) → replicate {A = ℕ} (48 + n) 0 ≡ replicate 8 0 ++ (replicate 32 0 ++ (replicate 4 0 ++ (replicate 4 0 ++ replicate n 0)))

@@ -1,5 +1,5 @@
 // Opening a book in a lent buffer.
-ghost use Rattle.std.specs.Prelude.{◌≡◌, ◌+◌, ◌*◌, length};
+ghost use Rattle.std.specs.Prelude.{◌≡◌, ◌+◌, ◌*◌, ◌≤◌, ◌++◌, length, drop, replicate};
 ghost use Rattle.book.specs.Book.{write};
 ghost use Rattle.opening.specs.Open.{in_range, fresh_book, open_answer, open_bytes, error_number};
 
@@ -56,11 +56,20 @@ fn write_fresh(book: &mut [u8], overlay: &[u8; 32], capacity: u32, starting: u8)
     requires { length book.old ≡ 48 + 145 * capacity }
     ensures { book.new ≡ write (fresh_book overlay.now capacity starting) }
 {
-    book.fill(0);
+    let size = book.len();
+    clear(book, size);
     put(book, 0, b"RSV");
     book[4] = 1;
     book[6] = starting;
     book[7] = starting;
     put(book, 8, overlay);
     write(book, 40, capacity);
+}
+
+// Zeros in the front, as far as `end`. By its end, so that nothing but a length says that the whole book is cleared.
+fn clear(book: &mut [u8], end: usize)
+    requires { end ≤ length book.old }
+    ensures { book.new ≡ replicate end 0 ++ drop end book.old }
+{
+    book[..end].fill(0);
 }
