@@ -1,6 +1,6 @@
 // The batch list: records one after another, strictly ascending by id.
-ghost use Rattle.std.specs.Prelude.{◌≡◌};
-ghost use Rattle.batches.specs.Batch.{fit, precedes, ordered, well_listed};
+ghost use Rattle.std.specs.Prelude.{◌≡◌, ◌&&◌, ◌+◌, ◌<◌, [], length, get_or, drop};
+ghost use Rattle.batches.specs.Batch.{fit, precedes, below, ordered, well_listed};
 
 use octets::order::compare;
 
@@ -19,18 +19,32 @@ pub fn check_batches(batches: &[u8]) -> bool
     rest.is_empty() && in_order(records)
 }
 
-// Whether each record is fit and its id below the next one's: both in one walk, which the first that is wrong ends.
+// Whether each record is fit and its id below the next one's: one walk, which the first record that is wrong ends. By place, since a record asks
+// for its neighbour.
 fn in_order(records: &[[u8; RECORD]]) -> bool
     ensures { result ≡ ordered records.now }
 {
-    for (i, record) in records.iter().enumerate() {
-        let rises = records.get(i + 1).is_none_or(|next| is_below(record, next));
-        let stands = is_fit(record) & rises;
-        if !stands {
+    for i in 0..records.len() {
+        if !stands(records, i) {
             return false;
         }
     }
     true
+}
+
+// Whether the record at a place is fit, and its id below that of the next, if there is a next.
+fn stands(records: &[[u8; RECORD]], place: usize) -> bool
+    requires { place < length records.now }
+    ensures { result ≡ (fit (get_or records.now place []) && below (get_or records.now place []) (drop (place + 1) records.now)) }
+{
+    if !is_fit(&records[place]) {
+        return false;
+    }
+    let next = place + 1;
+    if next == records.len() {
+        return true;
+    }
+    is_below(&records[place], &records[next])
 }
 
 // Whether a record has a depth that a batch may have.
